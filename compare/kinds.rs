@@ -1,0 +1,134 @@
+//! The kinds of phrase, their settings and limits, and a figure to be spoken.
+
+/// What is spoken. Each kind has a spelling call; four have a reading call.
+#[derive(Clone, Copy, PartialEq, Eq, Hash, Debug)]
+pub enum Kind {
+    UkCardinal,
+    UkMoney,
+    UkOrdinal,
+    UkDigitOrdinal,
+    UkYear,
+    FrCardinal,
+    FrOrdinal,
+}
+
+pub const KINDS: [Kind; 7] = [
+    Kind::UkCardinal,
+    Kind::UkMoney,
+    Kind::UkOrdinal,
+    Kind::UkDigitOrdinal,
+    Kind::UkYear,
+    Kind::FrCardinal,
+    Kind::FrOrdinal,
+];
+
+/// Ukrainian: gender, number, case. French: feminine, reformed, region.
+pub type Settings = [u32; 3];
+
+impl Kind {
+    pub fn name(self) -> &'static str {
+        match self {
+            Kind::UkCardinal => "Ukrainian cardinal",
+            Kind::UkMoney => "Ukrainian money",
+            Kind::UkOrdinal => "Ukrainian ordinal",
+            Kind::UkDigitOrdinal => "Ukrainian digit ordinal",
+            Kind::UkYear => "Ukrainian year",
+            Kind::FrCardinal => "French cardinal",
+            Kind::FrOrdinal => "French ordinal",
+        }
+    }
+
+    /// The spelling call without its prefix.
+    pub fn spelling_call(self) -> &'static str {
+        match self {
+            Kind::UkCardinal => "uk_to_cardinal",
+            Kind::UkMoney => "uk_to_currency",
+            Kind::UkOrdinal => "uk_to_ordinal",
+            Kind::UkDigitOrdinal => "uk_to_ordinal_num",
+            Kind::UkYear => "uk_to_year",
+            Kind::FrCardinal => "fr_to_cardinal",
+            Kind::FrOrdinal => "fr_to_ordinal",
+        }
+    }
+
+    /// The reading call without its prefix, for the kinds that have one.
+    pub fn reading_call(self) -> Option<&'static str> {
+        match self {
+            Kind::UkCardinal => Some("uk_from_cardinal"),
+            Kind::UkMoney => Some("uk_from_currency"),
+            Kind::FrCardinal => Some("fr_from_cardinal"),
+            Kind::FrOrdinal => Some("fr_from_ordinal"),
+            _ => None,
+        }
+    }
+
+    pub fn is_french(self) -> bool {
+        matches!(self, Kind::FrCardinal | Kind::FrOrdinal)
+    }
+
+    /// How many numbers each setting has: 0 up to one less.
+    pub fn setting_sizes(self) -> [u32; 3] {
+        if self.is_french() {
+            [2, 2, 3]
+        } else {
+            [3, 2, 6]
+        }
+    }
+
+    pub fn all_settings(self) -> Vec<Settings> {
+        let [a, b, c] = self.setting_sizes();
+        let each = |x| (0..b).flat_map(move |y| (0..c).map(move |z| [x, y, z]));
+        (0..a).flat_map(each).collect()
+    }
+
+    pub fn takes_sign(self) -> bool {
+        matches!(self, Kind::UkCardinal | Kind::FrCardinal | Kind::UkYear)
+    }
+
+    /// The largest whole part that is admitted, by magnitude.
+    pub fn limit(self) -> String {
+        match self {
+            Kind::UkCardinal | Kind::UkOrdinal => "9".repeat(66),
+            Kind::FrCardinal | Kind::FrOrdinal => "9".repeat(102),
+            Kind::UkMoney => u64::MAX.to_string(),
+            Kind::UkDigitOrdinal => u128::MAX.to_string(),
+            Kind::UkYear => i64::MAX.to_string(),
+        }
+    }
+}
+
+/// The 44 currency codes, in the order of the published enum.
+pub const CODES: [&str; 44] = [
+    "AED", "ARS", "AUD", "BRL", "CAD", "CHF", "CLP", "CNY", "COP", "CRC", "DINAR", "DOLLAR", "DZD",
+    "EUR", "GBP", "HKD", "IDR", "ILS", "INR", "JPY", "KRW", "KWD", "KZT", "MXN", "MYR", "NOK",
+    "NZD", "PEN", "PESO", "PHP", "PLN", "QAR", "RIYAL", "RUB", "SAR", "SGD", "THB", "TRY", "TWD",
+    "UAH", "USD", "UYU", "VND", "ZAR",
+];
+
+/// How a figure is to be spoken: the kind, its settings and, for money, the currency code.
+#[derive(Clone, Copy, Debug)]
+pub struct Manner<'a> {
+    pub kind: Kind,
+    pub settings: Settings,
+    pub code: &'a [u8],
+}
+
+impl<'a> Manner<'a> {
+    pub fn new(kind: Kind, settings: Settings, code: &'a str) -> Self {
+        Manner { kind, settings, code: code.as_bytes() }
+    }
+
+    pub fn show(&self) -> String {
+        let [a, b, c] = self.settings;
+        let code = String::from_utf8_lossy(self.code);
+        let code = if self.kind == Kind::UkMoney { format!(" {code}") } else { String::new() };
+        format!("{} {a} {b} {c}{code}", self.kind.name())
+    }
+}
+
+/// Every manner of a kind: all settings and, for money, all codes.
+pub fn all_manners(kind: Kind) -> Vec<Manner<'static>> {
+    let codes: &[&str] = if kind == Kind::UkMoney { &CODES } else { &[""] };
+    let each = |settings| codes.iter().map(move |code| Manner::new(kind, settings, code));
+    kind.all_settings().into_iter().flat_map(each).collect()
+}

@@ -1,0 +1,141 @@
+//! Compares every answer of the library with the published Rust's, through the C calls.
+//!
+//! `compare` takes about two minutes when all calls exist, `compare full` much longer;
+//! `compare samples TABLE FOLDER` writes expected answers instead and asks no call.
+
+mod calls;
+mod check;
+mod damage;
+mod expect;
+mod guess;
+mod kinds;
+mod lines;
+mod random;
+mod samples;
+mod shrink;
+mod spelling;
+mod texts;
+
+use check::{Checker, Counts, Difference};
+use kinds::{Kind, Manner, KINDS};
+use random::Random;
+use std::time::Instant;
+
+/// How much is compared.
+pub struct Size {
+    pub full: bool,
+    /// All texts up to here where the settings are few.
+    pub few_settings: u32,
+    /// All texts up to here in each of the 36 Ukrainian settings.
+    pub many_settings: u32,
+    /// All texts up to here in each of the 36 settings and 44 currencies.
+    pub most_settings: u32,
+    /// All amounts up to so many hundredths in the same.
+    pub hundredths: u32,
+    pub random_texts: usize,
+    /// Phrases of which every byte is changed.
+    pub byte_phrases: usize,
+    /// Phrases of which words are moved.
+    pub word_phrases: usize,
+    pub random_phrases: usize,
+}
+
+const QUICK: Size = Size {
+    full: false,
+    few_settings: 100_000,
+    many_settings: 2_000,
+    most_settings: 2_000,
+    hundredths: 299,
+    random_texts: 100_000,
+    byte_phrases: 36,
+    word_phrases: 600,
+    random_phrases: 1_000,
+};
+
+const FULL: Size = Size {
+    full: true,
+    few_settings: 100_000,
+    many_settings: 100_000,
+    most_settings: 2_000,
+    hundredths: 2_000,
+    random_texts: 1_000_000,
+    byte_phrases: 180,
+    word_phrases: 6_000,
+    random_phrases: 10_000,
+};
+
+fn main() {
+    let arguments: Vec<String> = std::env::args().skip(1).collect();
+    let arguments: Vec<&str> = arguments.iter().map(String::as_str).collect();
+    match arguments.as_slice() {
+        [] => compare(&QUICK),
+        ["full"] => compare(&FULL),
+        ["samples", table, folder] => samples::write(table.as_ref(), folder.as_ref()),
+        _ => {
+            eprintln!("usage: compare [full | samples TABLE FOLDER]");
+            std::process::exit(2);
+        }
+    }
+}
+
+fn compare(size: &Size) {
+    let seed = std::env::var("YOKEPEAR_SEED").ok().and_then(|s| s.parse().ok()).unwrap_or(1);
+    println!("seed {seed}");
+    let mut total = Counts::default();
+    for kind in KINDS.into_iter().filter(|kind| calls::spells(*kind)) {
+        let start = Instant::now();
+        match compare_kind(kind, size, seed) {
+            Ok(counts) => {
+                println!("{}: {}, {:.1} s", kind.name(), show(&counts), start.elapsed().as_secs_f32());
+                add(&mut total, &counts);
+            }
+            Err(found) => {
+                report(found);
+                std::process::exit(1);
+            }
+        }
+    }
+    println!("all: {}", show(&total));
+    println!("no difference");
+}
+
+fn compare_kind(kind: Kind, size: &Size, seed: u64) -> Result<Counts, Difference> {
+    let mut checker = Checker::new(17);
+    let mut random = Random::new(seed);
+    spelling::run(kind, size, &mut checker, &mut random)?;
+    damage::run(kind, size, &mut checker, &mut random)?;
+    Ok(checker.counts)
+}
+
+fn add(total: &mut Counts, counts: &Counts) {
+    total.spelled += counts.spelled;
+    total.refused += counts.refused;
+    total.read_back += counts.read_back;
+    total.rooms += counts.rooms;
+    total.damaged += counts.damaged;
+    total.still_sentences += counts.still_sentences;
+}
+
+fn show(counts: &Counts) -> String {
+    let Counts { spelled, refused, read_back, rooms, damaged, still_sentences } = counts;
+    let spelling = format!("{spelled} phrases as the Rust's, {refused} texts refused as predicted");
+    let reading = format!("{read_back} phrases read back, {damaged} damaged phrases read");
+    format!("{spelling}, {reading} ({still_sentences} of them sentences), {rooms} small buffers")
+}
+
+/// Says what differs, with the smallest input that was found to show it.
+fn report(found: Difference) {
+    let first = String::from_utf8_lossy(&found.input).into_owned();
+    let found = shrink::smallest(found);
+    let manner = Manner { kind: found.kind, settings: found.settings, code: &found.code };
+    let call = if found.reading { found.kind.reading_call() } else { None };
+    let call = call.unwrap_or(found.kind.spelling_call());
+    println!("DIFFERENCE in yokepear_{call} ({})", manner.show());
+    println!("  input: [{}] ({})", String::from_utf8_lossy(&found.input), hex(&found.input));
+    println!("{}", found.what);
+    println!("  first seen with [{first}]");
+}
+
+fn hex(bytes: &[u8]) -> String {
+    bytes.iter().map(|b| format!("{b:02x}")).collect::<Vec<_>>().join(" ")
+}

@@ -1,0 +1,22 @@
+-- `bank_fr::parts::part5` meets its contract: in the arm of a number it writes the text with that number.
+-- Assumes nothing.
+use borrow.Author.Needs.{needs}
+use lib.Dec.{lit≤}
+use Rattle.base.specs.Bank.{textIn}
+use Rattle.base.proofs.Arms.{need, gives, after}
+use Rattle.bank_fr.specs.Names.{names}
+use Rattle.bank_fr.proofs.parts.part5.Statement.{statement}
+use Rattle.bank_fr.proofs.parts.part5.Tie as tie
+
+pub part5-spec : {M : Type 1} → statement M
+unfolding textIn names
+part5-spec =
+    tie.close
+    (tie.spec
+    (λ c κs. need names (c .before .match .keys1) (c .before .before .before .pre .1 .1))
+    (λ c κs. need names (c .before .match .keys2) (c .before .before .before .pre .1 .1))
+    (λ c κs. need names (c .before .match .keys3) (c .before .before .before .pre .1 .1))
+    (λ c. search needs) (λ c. gives names _ _ _ (c .before .before .before .before .match .keys1) (c .before .before .put-07 .ensures))
+    (λ c. search needs) (λ c. gives names _ _ _ (c .before .before .before .before .match .keys2) (c .before .before .put-06 .ensures))
+    (λ c. search needs) (λ c. gives names _ _ _ (c .before .before .before .before .match .keys3) (c .before .before .put-04 .ensures))
+    (λ c. after names 80 _ 3 _ (c .match .rest) (c .before .before .pre .0) (lit≤ tt)))

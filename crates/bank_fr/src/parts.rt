@@ -1,0 +1,428 @@
+// The texts as byte strings, by their numbers, in functions of 16 arms: one function of all would take the check too long.
+// The last arm of each is for no number. It returns no constant: so the compiler keeps each text's stores in its own arm.
+use bytes::copy;
+ghost use mathlib.Core.Path.{_≡_};
+ghost use Prim.Native.Nat.{_≤_, _<_};
+ghost use lib.ListN.{length};
+ghost use Rattle.base.specs.Bank.{textIn};
+ghost use Rattle.base.specs.Buffer.{over};
+ghost use Rattle.bank_fr.specs.Names.{names};
+
+const W1: [u8; 5] = *b"\x7a\xc3\xa9\x72\x6f"; // zéro
+
+const W2: [u8; 5] = *b"\x6d\x6f\x69\x6e\x73"; // moins
+
+const W3: [u8; 2] = *b"\x75\x6e"; // un
+
+const W4: [u8; 4] = *b"\x64\x65\x75\x78"; // deux
+
+const W5: [u8; 5] = *b"\x74\x72\x6f\x69\x73"; // trois
+
+const W6: [u8; 6] = *b"\x71\x75\x61\x74\x72\x65"; // quatre
+
+const W7: [u8; 4] = *b"\x63\x69\x6e\x71"; // cinq
+
+const W8: [u8; 3] = *b"\x73\x69\x78"; // six
+
+const W9: [u8; 4] = *b"\x73\x65\x70\x74"; // sept
+
+const W10: [u8; 4] = *b"\x68\x75\x69\x74"; // huit
+
+const W11: [u8; 4] = *b"\x6e\x65\x75\x66"; // neuf
+
+const W12: [u8; 3] = *b"\x75\x6e\x65"; // une
+
+const W13: [u8; 3] = *b"\x64\x69\x78"; // dix
+
+const W14: [u8; 4] = *b"\x6f\x6e\x7a\x65"; // onze
+
+const W15: [u8; 5] = *b"\x64\x6f\x75\x7a\x65"; // douze
+
+const W16: [u8; 6] = *b"\x74\x72\x65\x69\x7a\x65"; // treize
+
+const W17: [u8; 8] = *b"\x71\x75\x61\x74\x6f\x72\x7a\x65"; // quatorze
+
+const W18: [u8; 6] = *b"\x71\x75\x69\x6e\x7a\x65"; // quinze
+
+const W19: [u8; 5] = *b"\x73\x65\x69\x7a\x65"; // seize
+
+const W20: [u8; 5] = *b"\x76\x69\x6e\x67\x74"; // vingt
+
+const W21: [u8; 6] = *b"\x74\x72\x65\x6e\x74\x65"; // trente
+
+const W22: [u8; 8] = *b"\x71\x75\x61\x72\x61\x6e\x74\x65"; // quarante
+
+const W23: [u8; 9] = *b"\x63\x69\x6e\x71\x75\x61\x6e\x74\x65"; // cinquante
+
+const W24: [u8; 8] = *b"\x73\x6f\x69\x78\x61\x6e\x74\x65"; // soixante
+
+const W25: [u8; 8] = *b"\x73\x65\x70\x74\x61\x6e\x74\x65"; // septante
+
+const W26: [u8; 8] = *b"\x68\x75\x69\x74\x61\x6e\x74\x65"; // huitante
+
+const W27: [u8; 7] = *b"\x6e\x6f\x6e\x61\x6e\x74\x65"; // nonante
+
+const W28: [u8; 6] = *b"\x76\x69\x6e\x67\x74\x73"; // vingts
+
+const W29: [u8; 4] = *b"\x63\x65\x6e\x74"; // cent
+
+const W30: [u8; 5] = *b"\x63\x65\x6e\x74\x73"; // cents
+
+const W31: [u8; 2] = *b"\x65\x74"; // et
+
+const W32: [u8; 1] = *b"\x73"; // s
+
+const W33: [u8; 7] = *b"\x70\x72\x65\x6d\x69\x65\x72"; // premier
+
+const W34: [u8; 5] = *b"\x69\xc3\xa8\x6d\x65"; // ième
+
+const W35: [u8; 5] = *b"\x6d\x69\x6c\x6c\x65"; // mille
+
+const W36: [u8; 7] = *b"\x6d\x69\x6c\x6c\x69\x6f\x6e"; // million
+
+const W37: [u8; 8] = *b"\x6d\x69\x6c\x6c\x69\x61\x72\x64"; // milliard
+
+const W38: [u8; 7] = *b"\x62\x69\x6c\x6c\x69\x6f\x6e"; // billion
+
+const W39: [u8; 8] = *b"\x62\x69\x6c\x6c\x69\x61\x72\x64"; // billiard
+
+const W40: [u8; 8] = *b"\x74\x72\x69\x6c\x6c\x69\x6f\x6e"; // trillion
+
+const W41: [u8; 9] = *b"\x74\x72\x69\x6c\x6c\x69\x61\x72\x64"; // trilliard
+
+const W42: [u8; 11] = *b"\x71\x75\x61\x64\x72\x69\x6c\x6c\x69\x6f\x6e"; // quadrillion
+
+const W43: [u8; 12] = *b"\x71\x75\x61\x64\x72\x69\x6c\x6c\x69\x61\x72\x64"; // quadrilliard
+
+const W44: [u8; 11] = *b"\x71\x75\x69\x6e\x74\x69\x6c\x6c\x69\x6f\x6e"; // quintillion
+
+const W45: [u8; 12] = *b"\x71\x75\x69\x6e\x74\x69\x6c\x6c\x69\x61\x72\x64"; // quintilliard
+
+const W46: [u8; 10] = *b"\x73\x65\x78\x74\x69\x6c\x6c\x69\x6f\x6e"; // sextillion
+
+const W47: [u8; 11] = *b"\x73\x65\x78\x74\x69\x6c\x6c\x69\x61\x72\x64"; // sextilliard
+
+const W48: [u8; 10] = *b"\x73\x65\x70\x74\x69\x6c\x6c\x69\x6f\x6e"; // septillion
+
+const W49: [u8; 11] = *b"\x73\x65\x70\x74\x69\x6c\x6c\x69\x61\x72\x64"; // septilliard
+
+const W50: [u8; 9] = *b"\x6f\x63\x74\x69\x6c\x6c\x69\x6f\x6e"; // octillion
+
+const W51: [u8; 10] = *b"\x6f\x63\x74\x69\x6c\x6c\x69\x61\x72\x64"; // octilliard
+
+const W52: [u8; 9] = *b"\x6e\x6f\x6e\x69\x6c\x6c\x69\x6f\x6e"; // nonillion
+
+const W53: [u8; 10] = *b"\x6e\x6f\x6e\x69\x6c\x6c\x69\x61\x72\x64"; // nonilliard
+
+const W54: [u8; 10] = *b"\x64\xc3\xa9\x63\x69\x6c\x6c\x69\x6f\x6e"; // décillion
+
+const W55: [u8; 11] = *b"\x64\xc3\xa9\x63\x69\x6c\x6c\x69\x61\x72\x64"; // décilliard
+
+const W56: [u8; 13] = *b"\x75\x6e\x6f\x64\xc3\xa9\x63\x69\x6c\x6c\x69\x6f\x6e"; // unodécillion
+
+const W57: [u8; 14] = *b"\x75\x6e\x6f\x64\xc3\xa9\x63\x69\x6c\x6c\x69\x61\x72\x64"; // unodécilliard
+
+const W58: [u8; 13] = *b"\x64\x75\x6f\x64\xc3\xa9\x63\x69\x6c\x6c\x69\x6f\x6e"; // duodécillion
+
+const W59: [u8; 14] = *b"\x64\x75\x6f\x64\xc3\xa9\x63\x69\x6c\x6c\x69\x61\x72\x64"; // duodécilliard
+
+const W60: [u8; 14] = *b"\x74\x72\xc3\xa9\x64\xc3\xa9\x63\x69\x6c\x6c\x69\x6f\x6e"; // trédécillion
+
+const W61: [u8; 15] = *b"\x74\x72\xc3\xa9\x64\xc3\xa9\x63\x69\x6c\x6c\x69\x61\x72\x64"; // trédécilliard
+
+const W62: [u8; 18] = *b"\x71\x75\x61\x74\x74\x75\x6f\x72\x64\xc3\xa9\x63\x69\x6c\x6c\x69\x6f\x6e"; // quattuordécillion
+
+const W63: [u8; 19] = *b"\x71\x75\x61\x74\x74\x75\x6f\x72\x64\xc3\xa9\x63\x69\x6c\x6c\x69\x61\x72\x64"; // quattuordécilliard
+
+const W64: [u8; 14] = *b"\x71\x75\x69\x6e\x64\xc3\xa9\x63\x69\x6c\x6c\x69\x6f\x6e"; // quindécillion
+
+const W65: [u8; 15] = *b"\x71\x75\x69\x6e\x64\xc3\xa9\x63\x69\x6c\x6c\x69\x61\x72\x64"; // quindécilliard
+
+const W66: [u8; 13] = *b"\x73\x65\x78\x64\xc3\xa9\x63\x69\x6c\x6c\x69\x6f\x6e"; // sexdécillion
+
+const W67: [u8; 14] = *b"\x73\x65\x78\x64\xc3\xa9\x63\x69\x6c\x6c\x69\x61\x72\x64"; // sexdécilliard
+
+const W68: [u8; 5] = *b"\x71\x75\x61\x74\x72"; // quatr
+
+const W69: [u8; 3] = *b"\x6f\x6e\x7a"; // onz
+
+const W70: [u8; 4] = *b"\x64\x6f\x75\x7a"; // douz
+
+const W71: [u8; 5] = *b"\x74\x72\x65\x69\x7a"; // treiz
+
+const W72: [u8; 7] = *b"\x71\x75\x61\x74\x6f\x72\x7a"; // quatorz
+
+const W73: [u8; 5] = *b"\x71\x75\x69\x6e\x7a"; // quinz
+
+const W74: [u8; 4] = *b"\x73\x65\x69\x7a"; // seiz
+
+const W75: [u8; 5] = *b"\x74\x72\x65\x6e\x74"; // trent
+
+const W76: [u8; 7] = *b"\x71\x75\x61\x72\x61\x6e\x74"; // quarant
+
+const W77: [u8; 8] = *b"\x63\x69\x6e\x71\x75\x61\x6e\x74"; // cinquant
+
+const W78: [u8; 7] = *b"\x73\x6f\x69\x78\x61\x6e\x74"; // soixant
+
+const W79: [u8; 7] = *b"\x73\x65\x70\x74\x61\x6e\x74"; // septant
+
+const W80: [u8; 7] = *b"\x68\x75\x69\x74\x61\x6e\x74"; // huitant
+
+const W81: [u8; 6] = *b"\x6e\x6f\x6e\x61\x6e\x74"; // nonant
+
+const W82: [u8; 4] = *b"\x6d\x69\x6c\x6c"; // mill
+
+fn put_01(w: [u8; 1], out: &mut [u8]) -> usize
+    requires { ⌜ length w ≤ length (now out) ⌝ }
+    ensures { λ r. ⌜ (r ≡ length w) × (now (out .exit) ≡ over (now (out .entry)) w) ⌝ }
+{
+    copy(&w, out)
+}
+
+fn put_02(w: [u8; 2], out: &mut [u8]) -> usize
+    requires { ⌜ length w ≤ length (now out) ⌝ }
+    ensures { λ r. ⌜ (r ≡ length w) × (now (out .exit) ≡ over (now (out .entry)) w) ⌝ }
+{
+    copy(&w, out)
+}
+
+fn put_03(w: [u8; 3], out: &mut [u8]) -> usize
+    requires { ⌜ length w ≤ length (now out) ⌝ }
+    ensures { λ r. ⌜ (r ≡ length w) × (now (out .exit) ≡ over (now (out .entry)) w) ⌝ }
+{
+    copy(&w, out)
+}
+
+fn put_04(w: [u8; 4], out: &mut [u8]) -> usize
+    requires { ⌜ length w ≤ length (now out) ⌝ }
+    ensures { λ r. ⌜ (r ≡ length w) × (now (out .exit) ≡ over (now (out .entry)) w) ⌝ }
+{
+    copy(&w, out)
+}
+
+fn put_05(w: [u8; 5], out: &mut [u8]) -> usize
+    requires { ⌜ length w ≤ length (now out) ⌝ }
+    ensures { λ r. ⌜ (r ≡ length w) × (now (out .exit) ≡ over (now (out .entry)) w) ⌝ }
+{
+    copy(&w, out)
+}
+
+fn put_06(w: [u8; 6], out: &mut [u8]) -> usize
+    requires { ⌜ length w ≤ length (now out) ⌝ }
+    ensures { λ r. ⌜ (r ≡ length w) × (now (out .exit) ≡ over (now (out .entry)) w) ⌝ }
+{
+    copy(&w, out)
+}
+
+fn put_07(w: [u8; 7], out: &mut [u8]) -> usize
+    requires { ⌜ length w ≤ length (now out) ⌝ }
+    ensures { λ r. ⌜ (r ≡ length w) × (now (out .exit) ≡ over (now (out .entry)) w) ⌝ }
+{
+    copy(&w, out)
+}
+
+fn put_08(w: [u8; 8], out: &mut [u8]) -> usize
+    requires { ⌜ length w ≤ length (now out) ⌝ }
+    ensures { λ r. ⌜ (r ≡ length w) × (now (out .exit) ≡ over (now (out .entry)) w) ⌝ }
+{
+    copy(&w, out)
+}
+
+fn put_09(w: [u8; 9], out: &mut [u8]) -> usize
+    requires { ⌜ length w ≤ length (now out) ⌝ }
+    ensures { λ r. ⌜ (r ≡ length w) × (now (out .exit) ≡ over (now (out .entry)) w) ⌝ }
+{
+    copy(&w, out)
+}
+
+fn put_10(w: [u8; 10], out: &mut [u8]) -> usize
+    requires { ⌜ length w ≤ length (now out) ⌝ }
+    ensures { λ r. ⌜ (r ≡ length w) × (now (out .exit) ≡ over (now (out .entry)) w) ⌝ }
+{
+    copy(&w, out)
+}
+
+fn put_11(w: [u8; 11], out: &mut [u8]) -> usize
+    requires { ⌜ length w ≤ length (now out) ⌝ }
+    ensures { λ r. ⌜ (r ≡ length w) × (now (out .exit) ≡ over (now (out .entry)) w) ⌝ }
+{
+    copy(&w, out)
+}
+
+fn put_12(w: [u8; 12], out: &mut [u8]) -> usize
+    requires { ⌜ length w ≤ length (now out) ⌝ }
+    ensures { λ r. ⌜ (r ≡ length w) × (now (out .exit) ≡ over (now (out .entry)) w) ⌝ }
+{
+    copy(&w, out)
+}
+
+fn put_13(w: [u8; 13], out: &mut [u8]) -> usize
+    requires { ⌜ length w ≤ length (now out) ⌝ }
+    ensures { λ r. ⌜ (r ≡ length w) × (now (out .exit) ≡ over (now (out .entry)) w) ⌝ }
+{
+    copy(&w, out)
+}
+
+fn put_14(w: [u8; 14], out: &mut [u8]) -> usize
+    requires { ⌜ length w ≤ length (now out) ⌝ }
+    ensures { λ r. ⌜ (r ≡ length w) × (now (out .exit) ≡ over (now (out .entry)) w) ⌝ }
+{
+    copy(&w, out)
+}
+
+fn put_15(w: [u8; 15], out: &mut [u8]) -> usize
+    requires { ⌜ length w ≤ length (now out) ⌝ }
+    ensures { λ r. ⌜ (r ≡ length w) × (now (out .exit) ≡ over (now (out .entry)) w) ⌝ }
+{
+    copy(&w, out)
+}
+
+fn put_18(w: [u8; 18], out: &mut [u8]) -> usize
+    requires { ⌜ length w ≤ length (now out) ⌝ }
+    ensures { λ r. ⌜ (r ≡ length w) × (now (out .exit) ≡ over (now (out .entry)) w) ⌝ }
+{
+    copy(&w, out)
+}
+
+fn put_19(w: [u8; 19], out: &mut [u8]) -> usize
+    requires { ⌜ length w ≤ length (now out) ⌝ }
+    ensures { λ r. ⌜ (r ≡ length w) × (now (out .exit) ≡ over (now (out .entry)) w) ⌝ }
+{
+    copy(&w, out)
+}
+
+pub fn part0(id: u32, out: &mut [u8]) -> usize
+    requires { ⌜ (0 ≤ id) × ((id < 16) × (length (textIn names id) ≤ length (now out))) ⌝ }
+    ensures { λ r. ⌜ (r ≡ length (textIn names id)) × (now (out .exit) ≡ over (now (out .entry)) (textIn names id)) ⌝ }
+{
+    match id {
+        1 => put_05(W1, out),
+        2 => put_05(W2, out),
+        3 => put_02(W3, out),
+        4 => put_04(W4, out),
+        5 => put_05(W5, out),
+        6 => put_06(W6, out),
+        7 => put_04(W7, out),
+        8 => put_03(W8, out),
+        9 => put_04(W9, out),
+        10 => put_04(W10, out),
+        11 => put_04(W11, out),
+        12 => put_03(W12, out),
+        13 => put_03(W13, out),
+        14 => put_04(W14, out),
+        15 => put_05(W15, out),
+        _ => id as usize,
+    }
+}
+
+pub fn part1(id: u32, out: &mut [u8]) -> usize
+    requires { ⌜ (16 ≤ id) × ((id < 32) × (length (textIn names id) ≤ length (now out))) ⌝ }
+    ensures { λ r. ⌜ (r ≡ length (textIn names id)) × (now (out .exit) ≡ over (now (out .entry)) (textIn names id)) ⌝ }
+{
+    match id {
+        16 => put_06(W16, out),
+        17 => put_08(W17, out),
+        18 => put_06(W18, out),
+        19 => put_05(W19, out),
+        20 => put_05(W20, out),
+        21 => put_06(W21, out),
+        22 => put_08(W22, out),
+        23 => put_09(W23, out),
+        24 => put_08(W24, out),
+        25 => put_08(W25, out),
+        26 => put_08(W26, out),
+        27 => put_07(W27, out),
+        28 => put_06(W28, out),
+        29 => put_04(W29, out),
+        30 => put_05(W30, out),
+        31 => put_02(W31, out),
+        _ => id as usize,
+    }
+}
+
+pub fn part2(id: u32, out: &mut [u8]) -> usize
+    requires { ⌜ (32 ≤ id) × ((id < 48) × (length (textIn names id) ≤ length (now out))) ⌝ }
+    ensures { λ r. ⌜ (r ≡ length (textIn names id)) × (now (out .exit) ≡ over (now (out .entry)) (textIn names id)) ⌝ }
+{
+    match id {
+        32 => put_01(W32, out),
+        33 => put_07(W33, out),
+        34 => put_05(W34, out),
+        35 => put_05(W35, out),
+        36 => put_07(W36, out),
+        37 => put_08(W37, out),
+        38 => put_07(W38, out),
+        39 => put_08(W39, out),
+        40 => put_08(W40, out),
+        41 => put_09(W41, out),
+        42 => put_11(W42, out),
+        43 => put_12(W43, out),
+        44 => put_11(W44, out),
+        45 => put_12(W45, out),
+        46 => put_10(W46, out),
+        47 => put_11(W47, out),
+        _ => id as usize,
+    }
+}
+
+pub fn part3(id: u32, out: &mut [u8]) -> usize
+    requires { ⌜ (48 ≤ id) × ((id < 64) × (length (textIn names id) ≤ length (now out))) ⌝ }
+    ensures { λ r. ⌜ (r ≡ length (textIn names id)) × (now (out .exit) ≡ over (now (out .entry)) (textIn names id)) ⌝ }
+{
+    match id {
+        48 => put_10(W48, out),
+        49 => put_11(W49, out),
+        50 => put_09(W50, out),
+        51 => put_10(W51, out),
+        52 => put_09(W52, out),
+        53 => put_10(W53, out),
+        54 => put_10(W54, out),
+        55 => put_11(W55, out),
+        56 => put_13(W56, out),
+        57 => put_14(W57, out),
+        58 => put_13(W58, out),
+        59 => put_14(W59, out),
+        60 => put_14(W60, out),
+        61 => put_15(W61, out),
+        62 => put_18(W62, out),
+        63 => put_19(W63, out),
+        _ => id as usize,
+    }
+}
+
+pub fn part4(id: u32, out: &mut [u8]) -> usize
+    requires { ⌜ (64 ≤ id) × ((id < 80) × (length (textIn names id) ≤ length (now out))) ⌝ }
+    ensures { λ r. ⌜ (r ≡ length (textIn names id)) × (now (out .exit) ≡ over (now (out .entry)) (textIn names id)) ⌝ }
+{
+    match id {
+        64 => put_14(W64, out),
+        65 => put_15(W65, out),
+        66 => put_13(W66, out),
+        67 => put_14(W67, out),
+        68 => put_05(W68, out),
+        69 => put_03(W69, out),
+        70 => put_04(W70, out),
+        71 => put_05(W71, out),
+        72 => put_07(W72, out),
+        73 => put_05(W73, out),
+        74 => put_04(W74, out),
+        75 => put_05(W75, out),
+        76 => put_07(W76, out),
+        77 => put_08(W77, out),
+        78 => put_07(W78, out),
+        79 => put_07(W79, out),
+        _ => id as usize,
+    }
+}
+
+pub fn part5(id: u32, out: &mut [u8]) -> usize
+    requires { ⌜ (80 ≤ id) × ((id < 96) × (length (textIn names id) ≤ length (now out))) ⌝ }
+    ensures { λ r. ⌜ (r ≡ length (textIn names id)) × (now (out .exit) ≡ over (now (out .entry)) (textIn names id)) ⌝ }
+{
+    match id {
+        80 => put_07(W80, out),
+        81 => put_06(W81, out),
+        82 => put_04(W82, out),
+        _ => 0,
+    }
+}

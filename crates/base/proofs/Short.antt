@@ -1,0 +1,27 @@
+-- Every text of a bank is short: one test that antt computes over the bank, and the rule at each number.
+-- Assumes nothing.
+use Prim.Native.Nat.{ℕ, zero, suc, _<_}
+use Prim.Native.String.{String}
+use mathlib.Core.Path.{_≡_, refl}
+use mathlib.Core.Bool.{Bool, true, false, _&&_}
+use mathlib.Core.List.{List, [], _∷_}
+use native.Mathlib.Omega.{arith}
+use borrow.Author.Tests.{ltb-true}
+use lib.Dec.{ltb, lit<}
+use lib.ListN.{length, getD}
+use Rattle.base.specs.Utf8.{utf8}
+use Rattle.base.specs.Bank.{textIn}
+
+abbrev pub shorts : ℕ → List String → Bool
+shorts n [] = true
+shorts n (t ∷ ts) = ltb (length (utf8 t)) n && shorts n ts
+
+split : (a b : Bool) → (a && b) ≡ true → (a ≡ true) × (b ≡ true)
+split true b e = (refl, e)
+split false b e = let z : _≡_ {A = ℕ} 0 1 = cc in absurd (omega arith)
+
+pub short-at : (n : ℕ) (ts : List String) → 0 < n → shorts n ts ≡ true → (i : ℕ) → length (textIn ts i) < n
+unfolding textIn
+short-at n [] z e i = z
+short-at n (t ∷ ts) z e zero = ltb-true (length (utf8 t)) n (split (ltb (length (utf8 t)) n) (shorts n ts) e .0)
+short-at n (t ∷ ts) z e (suc i) = short-at n ts z (split (ltb (length (utf8 t)) n) (shorts n ts) e .1) i

@@ -1,0 +1,56 @@
+-- What a call answers, and what that does to the lent buffer (01, "Where each refusal arises"). Every call's contract cites these.
+-- Assumes nothing.
+use Prim.Native.Nat.{ℕ, zero, suc}
+use mathlib.Core.Path.{_≡_}
+use mathlib.Core.Bool.{cond}
+use mathlib.Core.List.{List}
+use lib.Dec.{ltb}
+use lib.ListN.{length}
+use Rattle.base.specs.Buffer.{over}
+use Rattle.base.specs.declared.Answer.{Answer}
+
+-- a refusal's number with the length that it reports, or the bytes of an answer
+pub data Reply : Type 0 where
+  refused : ℕ → ℕ → Reply
+  bytes : List ℕ → Reply
+
+-- the number of a reply
+abbrev pub numberOf : Reply → ℕ
+numberOf (refused n l) = n
+numberOf (bytes b) = 0
+
+-- the length that it reports
+abbrev pub lengthOf : Reply → ℕ
+lengthOf (refused n l) = l
+lengthOf (bytes b) = length b
+
+-- what the buffer xs holds then
+abbrev pub bufferOf : List ℕ → Reply → List ℕ
+bufferOf xs (refused n l) = xs
+bufferOf xs (bytes b) = over xs b
+
+-- the bytes b for the buffer xs: refusal 7 with their length where the buffer is shorter
+abbrev pub fitted : List ℕ → List ℕ → Reply
+fitted xs b = cond (ltb (length xs) (length b)) (refused 7 (length b)) (bytes b)
+
+-- the refusal n, or where n is 0 the bytes b for the buffer xs
+abbrev pub replied : ℕ → List ℕ → List ℕ → Reply
+replied zero b xs = fitted xs b
+replied (suc n) b xs = refused (suc n) 0
+
+-- the answer r, with the buffer xs left as ys, is this reply
+pub record Answers (r : Answer) (xs ys : List ℕ) (reply : Reply) : Type 0 where
+  pub number : r .number ≡ numberOf reply
+  pub length : r .length ≡ lengthOf reply
+  pub buffer : ys ≡ bufferOf xs reply
+
+-- what a reading call promises of its answer r to the phrase s, for the buffer xs left as ys, where no refusal comes before the phrase's:
+-- a sentence whose value is the text t is answered by t, or by 7 where t does not fit; what is no sentence is refused by 6
+pub record Reads (Means : List ℕ → List ℕ → Type 0) (s : List ℕ) (r : Answer) (xs ys : List ℕ) : Type 0 where
+  pub sentence : (t : List ℕ) → Means s t → Answers r xs ys (fitted xs t)
+  pub none : ((t : List ℕ) → Means s t → ⊥) → Answers r xs ys (refused 6 0)
+
+-- the same, where the refusal n comes first unless it is 0
+abbrev pub ReadsUnless : ℕ → (List ℕ → List ℕ → Type 0) → List ℕ → Answer → List ℕ → List ℕ → Type 0
+ReadsUnless zero Means s r xs ys = Reads Means s r xs ys
+ReadsUnless (suc n) Means s r xs ys = Answers r xs ys (refused (suc n) 0)

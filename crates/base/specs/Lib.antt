@@ -1,0 +1,7 @@
+pub mod Utf8
+pub mod Bank
+pub mod Buffer
+pub mod Join
+pub mod Decides
+pub mod Answer
+pub mod Claim

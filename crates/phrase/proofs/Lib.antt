@@ -1,0 +1,4 @@
+pub mod Laws
+pub mod Added
+pub mod Tells
+pub mod Standing

@@ -1,0 +1,4 @@
+pub mod Phrase
+pub mod Plan
+pub mod Speaks
+pub mod Stands

@@ -1,0 +1,32 @@
+-- A phrase as a list of pieces. A piece is its separator, a byte, 0 for none, and its text. The first piece's separator is not said.
+-- Assumes nothing.
+use Prim.Native.Nat.{ℕ, zero, suc}
+use mathlib.Core.List.{List, [], _∷_, _++_}
+
+abbrev pub Piece : Type 0
+Piece = ℕ × List ℕ
+
+-- a word of its own; one that runs on; one after a hyphen
+abbrev pub word : List ℕ → Piece
+word b = (32, b)
+
+abbrev pub on : List ℕ → Piece
+on b = (0, b)
+
+abbrev pub hyphened : List ℕ → Piece
+hyphened b = (45, b)
+
+-- what a separator says
+abbrev pub gap : ℕ → List ℕ
+gap zero = []
+gap (suc b) = suc b ∷ []
+
+-- pieces after others, each with its separator
+unfoldable pub following : List Piece → List ℕ
+following [] = []
+following (p ∷ ps) = (gap (p .0) ++ p .1) ++ following ps
+
+-- the bytes of a phrase
+unfoldable pub phrase : List Piece → List ℕ
+phrase [] = []
+phrase (p ∷ ps) = p .1 ++ following ps
