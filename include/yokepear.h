@@ -8,7 +8,7 @@
  *   All are byte strings with a length, UTF-8, without a closing zero byte.
  *   A number text is ASCII: an optional `-`, then `0` or digits without a leading zero; there is
  *   no `-` before zero. Each call below says how large the number may be.
- *   A phrase has single spaces; the Ukrainian apostrophe is U+02BC (bytes CA BC).
+ *   A phrase is in small letters with single joiners; the Ukrainian apostrophe is U+02BC (CA BC).
  *
  * Buffers
  *   A call takes any bytes, any lengths and any setting numbers. It reads no byte past an input's

@@ -1,0 +1,4 @@
+pub mod Ids
+pub mod Columns
+pub mod Numbers
+pub mod Unique

@@ -1,0 +1,6 @@
+pub mod UkTables
+pub mod Rules
+pub mod Ukrainian
+pub mod Cardinal
+pub mod Grammar
+pub mod Columns

@@ -1,0 +1,137 @@
+#define _DEFAULT_SOURCE
+#include "expect.h"
+
+#include <signal.h>
+#include <stdio.h>
+#include <stdlib.h>
+#include <string.h>
+#include <unistd.h>
+
+#include "guard.h"
+
+enum { LONGEST_INPUT = 70000 };
+
+static struct block input_block, code_block, out_block;
+static uint8_t *fills[2], *want;
+static const struct request *asking;
+
+/* What was asked when something went wrong. */
+static void show(const char *what) {
+  const struct request *r = asking;
+  if (!r) return;
+  printf("%s: yokepear_%s, settings %u %u %u", what, r->call->name, r->settings[0], r->settings[1],
+         r->settings[2]);
+  if (r->call->on_money) printf(", code [%.*s]", (int)r->code_length, (const char *)r->code);
+  if (r->call->on_year)
+    printf(", year %lld\n", (long long)r->year);
+  else
+    printf(", input of %zu bytes [%.*s]\n", r->input_length,
+           (int)(r->input_length < 3000 ? r->input_length : 3000), (const char *)r->input);
+}
+
+static void fault(int number) {
+  (void)number;
+  show("FAULT, a byte outside an input or a buffer was touched");
+  fflush(stdout);
+  _exit(1);
+}
+
+/* The byte that stands at a place before a call; the two fills differ at every place. */
+static uint8_t filler(size_t place, int fill) {
+  uint8_t byte = (uint8_t)(place * 37 + 11);
+  return fill ? (uint8_t)~byte : byte;
+}
+
+void start_expecting(void) {
+  input_block = make_block(LONGEST_INPUT);
+  code_block = make_block(64);
+  out_block = make_block(2 * LARGE);
+  want = make_block(out_block.size).bytes;
+  for (int fill = 0; fill < 2; fill++) {
+    fills[fill] = make_block(out_block.size).bytes;
+    for (size_t i = 0; i < out_block.size; i++) fills[fill][i] = filler(i, fill);
+  }
+  signal(SIGSEGV, fault);
+  signal(SIGBUS, fault);
+}
+
+static void differ(const char *what, yokepear_answer got, uint32_t number, size_t length,
+                   size_t room) {
+  show("DIFFERENCE");
+  printf("  %s, in a buffer of %zu: answered %u %zu, expected %u %zu\n", what, room, got.number,
+         got.length, number, length);
+  exit(1);
+}
+
+/* Asks with a buffer of `room` bytes at `at` of the block; every byte of the block is compared. */
+static void expect_at(const struct request *r, uint32_t number, const uint8_t *bytes, size_t length,
+                      size_t room, size_t at, int fill) {
+  memcpy(want, fills[fill], out_block.size);
+  memcpy(out_block.bytes, want, out_block.size);
+  uint32_t want_number = number ? number : length > room ? 7 : 0;
+  size_t want_length = number ? 0 : length;
+  if (!want_number && length) memcpy(want + at, bytes, length);
+  yokepear_answer got = ask(r, out_block.bytes + at, room);
+  if (got.number != want_number || got.length != want_length)
+    differ("number or length", got, want_number, want_length, room);
+  if (memcmp(out_block.bytes, want, out_block.size))
+    differ("bytes of the buffer or around it", got, want_number, want_length, room);
+}
+
+/* A buffer of this length: at the block's end, at its front and amid it, with both fills. */
+static void expect_room(const struct request *r, uint32_t number, const uint8_t *bytes,
+                        size_t length, size_t room) {
+  size_t last = out_block.size - room;
+  size_t places[3] = {last, 0, last / 2};
+  for (int i = 0; i < 3; i++)
+    for (int fill = 0; fill < 2; fill++) expect_at(r, number, bytes, length, room, places[i], fill);
+}
+
+/* No buffer at all. */
+static void expect_null(const struct request *r, uint32_t number, size_t length) {
+  uint32_t want_number = number ? number : length ? 7 : 0;
+  yokepear_answer got = ask(r, 0, 0);
+  if (got.number != want_number || got.length != (number ? 0 : length))
+    differ("a null buffer", got, want_number, number ? 0 : length, 0);
+}
+
+/* The same request with its inputs in read-only blocks, at their ends or fronts. */
+static struct request placed(const struct request *r, int at_end) {
+  struct request copy = *r;
+  if (r->input_length || r->input)
+    copy.input = place_input(input_block, r->input, r->input_length, at_end);
+  if (r->code_length || r->code)
+    copy.code = place_input(code_block, r->code, r->code_length, at_end);
+  return copy;
+}
+
+static void expect(const struct request *r, uint32_t number, const uint8_t *bytes, size_t length) {
+  size_t rooms[] = {LARGE,  0, 1, length + 1, length + 2, length, length - (length > 0),
+                    length - 2 * (length > 1)};
+  for (int at_end = 0; at_end < 2; at_end++) {
+    struct request copy = placed(r, at_end);
+    asking = &copy;
+    for (size_t i = 0; i < sizeof rooms / sizeof *rooms; i++)
+      expect_room(&copy, number, bytes, length, rooms[i]);
+    expect_null(&copy, number, length);
+    asking = 0;
+  }
+}
+
+void expect_answer(const struct request *r, const uint8_t *bytes, size_t length) {
+  r->call->answers++;
+  expect(r, 0, bytes, length);
+}
+
+void expect_refusal(const struct request *r, uint32_t number) {
+  r->call->refusals++;
+  expect(r, number, 0, 0);
+}
+
+size_t answer_of(const struct request *r, uint8_t out[LARGE]) {
+  asking = r;
+  yokepear_answer got = ask(r, out, LARGE);
+  if (got.number || got.length > LARGE) differ("a refusal", got, 0, 0, LARGE);
+  asking = 0;
+  return got.length;
+}

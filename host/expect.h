@@ -1,0 +1,22 @@
+/* Asks a call with buffers of many lengths and places, and compares all that it gives back. */
+#ifndef EXPECT_H
+#define EXPECT_H
+
+#include "ask.h"
+
+/* Longer than any answer. */
+#define LARGE 4000
+
+/* To be called once, before the others. */
+void start_expecting(void);
+
+/* The request must be answered by these bytes, or by 7 where the buffer is shorter. */
+void expect_answer(const struct request *request, const uint8_t *bytes, size_t length);
+
+/* The request must be refused by this number whatever the buffer. */
+void expect_refusal(const struct request *request, uint32_t number);
+
+/* The answer in a large buffer, which must not be a refusal; its length. */
+size_t answer_of(const struct request *request, uint8_t out[LARGE]);
+
+#endif

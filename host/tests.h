@@ -1,0 +1,17 @@
+/* The parts of the host test; each ends the program at the first difference. */
+#ifndef TESTS_H
+#define TESTS_H
+
+/* Every line of the table of expected answers, spelled and read back. */
+void test_table(const char *path);
+
+/* Every setting with a spread of texts, admitted and refused, and settings out of range. */
+void test_texts(void);
+
+/* Currency codes, known and unknown. */
+void test_codes(void);
+
+/* Phrases that no setting admits. */
+void test_phrases(void);
+
+#endif
