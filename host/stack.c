@@ -1,0 +1,163 @@
+/*
+ * The deepest stack use of each call: it runs on a painted stack, and what was painted over is
+ * looked for afterwards. Counted from the call's return address downwards, memcpy included.
+ */
+#define _DEFAULT_SOURCE
+#include <stdio.h>
+#include <stdlib.h>
+#include <string.h>
+#include <ucontext.h>
+
+#include "ask.h"
+
+enum { STACK = 1 << 20, LARGE = 4000, LONG = 64 * 1024, ADDRESS = sizeof(void *) };
+
+static uint8_t stack[STACK], out[LARGE], words[LONG];
+static ucontext_t here, there;
+static const struct request *asking;
+static size_t out_length;
+static yokepear_answer answer;
+
+static void run(void) { answer = ask(asking, out, out_length); }
+
+/* Runs the request on a stack painted with this byte; how many bytes were in use. */
+static size_t painted(const struct request *r, uint8_t paint) {
+  memset(stack, paint, STACK);
+  getcontext(&there);
+  there.uc_stack.ss_sp = stack;
+  there.uc_stack.ss_size = STACK;
+  there.uc_link = &here;
+  makecontext(&there, run, 0);
+  asking = r;
+  swapcontext(&here, &there);
+  size_t low = 0;
+  while (low < STACK && stack[low] == paint) low++;
+  return STACK - low;
+}
+
+/* A byte that happens to be the paint is seen with the other paint. */
+static size_t used(const struct request *r, size_t room) {
+  out_length = room;
+  size_t first = painted(r, 0xa5), second = painted(r, 0x5a);
+  return first > second ? first : second;
+}
+
+/* Calls that do nothing: what asking itself takes. */
+static yokepear_answer no_text(uint32_t a, uint32_t b, uint32_t c, const uint8_t *s, size_t n,
+                               uint8_t *o, size_t room) {
+  (void)a, (void)b, (void)c, (void)s, (void)n, (void)o, (void)room;
+  return (yokepear_answer){0, 0};
+}
+static yokepear_answer no_money(uint32_t a, uint32_t b, uint32_t c, const uint8_t *k, size_t m,
+                                const uint8_t *s, size_t n, uint8_t *o, size_t room) {
+  (void)a, (void)b, (void)c, (void)k, (void)m, (void)s, (void)n, (void)o, (void)room;
+  return (yokepear_answer){0, 0};
+}
+static yokepear_answer no_year(uint32_t a, uint32_t b, uint32_t c, int64_t year, uint8_t *o,
+                               size_t room) {
+  (void)a, (void)b, (void)c, (void)year, (void)o, (void)room;
+  return (yokepear_answer){0, 0};
+}
+
+static size_t asking_alone(const struct call *call) {
+  struct call nothing = *call;
+  if (call->on_text) nothing.on_text = no_text;
+  if (call->on_money) nothing.on_money = no_money;
+  if (call->on_year) nothing.on_year = no_year;
+  struct request r = {0};
+  r.call = &nothing;
+  return used(&r, 0) - ADDRESS;
+}
+
+static size_t deeper(size_t a, size_t b) { return a > b ? a : b; }
+
+/* The request with room and without. */
+static size_t with_rooms(struct request r) {
+  return deeper(used(&r, LARGE), deeper(used(&r, 0), used(&r, 1)));
+}
+
+/* Short texts and long ones; the longest are made of groups with the longest words. */
+static const char *const texts[] = {
+    "0", "1", "-1", "42", "1000", "999999", "007", "0.01", "18446744073709551615.99",
+    "14989989989989989989.89", "340282366920938463463374607431768211455",
+};
+
+static struct call *spelling_call(const struct call *reading) {
+  for (size_t i = 0; i < call_count; i++)
+    if (!calls[i].reading && reading_call(&calls[i]) == reading) return &calls[i];
+  return 0;
+}
+
+/* The phrase of a text in the same settings becomes the input, if there is one. */
+static void spell_input(struct request *r, uint8_t *phrase) {
+  struct request spelling = *r;
+  spelling.call = spelling_call(r->call);
+  if (!spelling.call) return;
+  yokepear_answer a = ask(&spelling, phrase, LARGE);
+  if (a.number) return;
+  r->input = phrase;
+  r->input_length = a.length;
+}
+
+static size_t with_text(struct request r, const char *text) {
+  uint8_t phrase[LARGE];
+  r.input = (const uint8_t *)text;
+  r.input_length = strlen(text);
+  r.year = strtoll(text, 0, 10);
+  if (r.call->reading) spell_input(&r, phrase);
+  return with_rooms(r);
+}
+
+/* A text of so many equal groups after a front. */
+static size_t with_groups(struct request r, const char *front, const char *group, int groups) {
+  char text[128];
+  strcpy(text, front);
+  for (int i = 0; i < groups; i++) strcat(text, group);
+  return with_text(r, text);
+}
+
+static size_t with_texts(struct request r) {
+  size_t most = 0;
+  for (size_t i = 0; i < sizeof texts / sizeof *texts; i++)
+    most = deeper(most, with_text(r, texts[i]));
+  int groups = r.call->french ? 34 : 22;
+  most = deeper(most, with_groups(r, "", "989", groups));
+  most = deeper(most, with_groups(r, "-", "989", groups));
+  most = deeper(most, with_groups(r, "", "997", groups));
+  return deeper(most, with_groups(r, "9", "999", groups));
+}
+
+/* A long run of one word, for readers that might go deeper with every word. */
+static size_t with_words(struct request r, const char *word) {
+  size_t length = strlen(word);
+  for (size_t i = 0; i < LONG; i++) words[i] = (uint8_t)word[i % length];
+  r.input = words;
+  r.input_length = LONG;
+  return used(&r, LARGE);
+}
+
+static size_t deepest_of(struct call *call) {
+  struct request r = {0};
+  size_t most = 0;
+  r.call = call;
+  r.code = (const uint8_t *)"ILS";
+  r.code_length = 3;
+  do most = deeper(most, with_texts(r));
+  while (next_settings(call, r.settings));
+  static const char *const long_words[] = {"один ", "сто ", "un ", "cent ", "1", "-"};
+  for (size_t i = 0; i < sizeof long_words / sizeof *long_words; i++)
+    most = deeper(most, with_words(r, long_words[i]));
+  return most - asking_alone(call);
+}
+
+/* An optional argument is a limit in bytes: the program ends with 1 if a call reaches it. */
+int main(int argc, char **argv) {
+  size_t most = 0, limit = argc > 1 ? (size_t)strtoul(argv[1], 0, 10) : STACK;
+  for (size_t i = 0; i < call_count; i++) {
+    size_t bytes = deepest_of(&calls[i]);
+    printf("yokepear_%s: %zu bytes of stack\n", calls[i].name, bytes);
+    most = deeper(most, bytes);
+  }
+  printf("deepest: %zu bytes of stack\n", most);
+  return most < limit ? 0 : 1;
+}
