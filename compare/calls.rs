@@ -16,6 +16,7 @@ pub struct Answer {
 }
 
 /// Declares a call on three settings, one text and a buffer.
+#[rustfmt::skip]
 macro_rules! on_text {
     ($have:meta, $name:ident) => {
         #[cfg($have)]
@@ -27,11 +28,11 @@ macro_rules! on_text {
 }
 
 /// Declares a call that has a currency code before its text.
+#[rustfmt::skip]
 macro_rules! on_code_and_text {
     ($have:meta, $name:ident) => {
         #[cfg($have)]
         extern "C" {
-            #[rustfmt::skip]
             fn $name(a: u32, b: u32, c: u32, code: *const u8, k: usize, s: *const u8, n: usize,
                 out: *mut u8, room: usize) -> Answer;
         }

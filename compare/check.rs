@@ -79,6 +79,9 @@ impl Checker {
             return Ok(());
         }
         self.counts.read_back += 1;
+        if self.counts.read_back % self.every == 0 {
+            self.guess_is_right(manner, phrase, text);
+        }
         let fail = |what| difference(manner, true, phrase, what);
         let ask = |out: &mut [u8]| calls::read(manner, phrase, out);
         self.compare_rooms(Outcome::Bytes(text), text.len(), ask).map_err(fail)

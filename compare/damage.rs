@@ -20,9 +20,6 @@ struct Spelled {
 }
 
 pub fn run(kind: Kind, size: &Size, checker: &mut Checker, random: &mut Random) -> Outcome {
-    if !calls::reads(kind) {
-        return Ok(());
-    }
     for spelled in spread(kind, size.byte_phrases, 6, checker, random) {
         every_byte(&spelled, checker)?;
     }
@@ -156,8 +153,8 @@ fn words_moved(
             let mut rejoined = words.clone();
             rejoined[at].0 = Some(joiner);
             checker.read(manner, &joined(&rejoined))?;
-            let before = joined(&words[..at]);
-            checker.read(manner, &[&before, &[joiner, joiner][..], &joined(&words[at..])].concat())?;
+            let (before, after) = (joined(&words[..at]), joined(&words[at..]));
+            checker.read(manner, &[&before, &[joiner, joiner][..], &after].concat())?;
         }
     }
     for piece in [&b" "[..], b"-", b"\0", b"\n", b"s", b"e"] {
@@ -209,8 +206,8 @@ fn random_phrases(
         checker.read(manner, &[&spelled.phrase, &b" "[..]].concat().repeat(length / 16))?;
     }
     let manner = Manner::new(kind, [0, 0, 0], "UAH");
-    for word in [&b" "[..], b"-", "один".as_bytes(), b"un", b"mille ", "тисяча ".as_bytes()] {
-        checker.read(&manner, &word.repeat(LONGEST / word.len()))?;
+    for word in [" ", "-", "один", "un", "mille ", "тисяча "] {
+        checker.read(&manner, word.repeat(LONGEST / word.len()).as_bytes())?;
     }
     checker.read(&manner, b"")
 }

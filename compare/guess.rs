@@ -68,7 +68,7 @@ impl Reader {
         if phrase == b"premier" {
             return Some("1".to_string());
         }
-        let last = phrase.iter().rposition(|b| is_joiner(b)).map_or(0, |at| at + 1);
+        let last = phrase.iter().rposition(is_joiner).map_or(0, |at| at + 1);
         let word = self.cardinal_words.get(&phrase[last..])?;
         let words = phrase[..last].split(is_joiner).filter(|w| !w.is_empty());
         number(&self.french, words.chain([word.as_slice()]))

@@ -11,6 +11,7 @@ mod guess;
 mod kinds;
 mod lines;
 mod random;
+mod sample_lines;
 mod samples;
 mod shrink;
 mod spelling;
@@ -46,10 +47,10 @@ const QUICK: Size = Size {
     many_settings: 2_000,
     most_settings: 2_000,
     hundredths: 299,
-    random_texts: 100_000,
-    byte_phrases: 36,
-    word_phrases: 600,
-    random_phrases: 1_000,
+    random_texts: 200_000,
+    byte_phrases: 72,
+    word_phrases: 1_200,
+    random_phrases: 2_000,
 };
 
 const FULL: Size = Size {
@@ -82,11 +83,12 @@ fn compare(size: &Size) {
     let seed = std::env::var("YOKEPEAR_SEED").ok().and_then(|s| s.parse().ok()).unwrap_or(1);
     println!("seed {seed}");
     let mut total = Counts::default();
-    for kind in KINDS.into_iter().filter(|kind| calls::spells(*kind)) {
+    for kind in KINDS.into_iter().filter(|kind| calls::spells(*kind) || calls::reads(*kind)) {
         let start = Instant::now();
         match compare_kind(kind, size, seed) {
             Ok(counts) => {
-                println!("{}: {}, {:.1} s", kind.name(), show(&counts), start.elapsed().as_secs_f32());
+                let seconds = start.elapsed().as_secs_f32();
+                println!("{}: {}, {seconds:.1} s", kind.name(), show(&counts));
                 add(&mut total, &counts);
             }
             Err(found) => {
@@ -102,8 +104,12 @@ fn compare(size: &Size) {
 fn compare_kind(kind: Kind, size: &Size, seed: u64) -> Result<Counts, Difference> {
     let mut checker = Checker::new(17);
     let mut random = Random::new(seed);
-    spelling::run(kind, size, &mut checker, &mut random)?;
-    damage::run(kind, size, &mut checker, &mut random)?;
+    if calls::spells(kind) {
+        spelling::run(kind, size, &mut checker, &mut random)?;
+    }
+    if calls::reads(kind) {
+        damage::run(kind, size, &mut checker, &mut random)?;
+    }
     Ok(checker.counts)
 }
 

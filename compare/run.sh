@@ -7,47 +7,17 @@ set -euo pipefail
 here=$(cd "$(dirname "${BASH_SOURCE[0]}")" && pwd)
 repo=$(dirname "$here")
 . "$repo/host/calls.sh"
-library=${YOKEPEAR_LIB:-$repo/target/staticlib}
-export YOKEPEAR_SOURCES=${YOKEPEAR_SOURCES:-$repo/../shared/docs/src}
+. "$here/reference.sh"
 build=${YOKEPEAR_BUILD:-$repo/target}/compare
 
-for file in lang/uk.rs lang/fr.rs currency.rs num2words.rs; do
-  if [ ! -f "$YOKEPEAR_SOURCES/src/$file" ]; then
-    echo "compare: NOT RUN, the published Rust is not at $YOKEPEAR_SOURCES (src/$file is missing)"
-    exit 0
-  fi
-done
-YOKEPEAR_SOURCES=$(cd "$YOKEPEAR_SOURCES" && pwd)
-if ! command -v rustc >/dev/null; then
-  echo "compare: NOT RUN, there is no rustc"
-  exit 0
-fi
-
-mkdir -p "$build"
-rust="rustc --edition 2021 -O --out-dir $build -L $build"
-$rust --crate-type rlib --crate-name num_bigfloat "$here/num_bigfloat.rs"
-# The published files are not ours to mend: their warnings are not shown.
-$rust --crate-type rlib --crate-name reference --cap-lints allow --extern num_bigfloat "$here/reference.rs"
-
-built=
-link=()
-if [ "${1:-}" != samples ]; then
-  need_archive "$library/libyokepear.a"
-  built=$(built_calls "$library/libyokepear.a")
-  say_missing "$built"
-  if [ -z "$built" ]; then
-    echo "compare: NOT RUN, the archive has none of the calls"
-    exit 1
-  fi
-  link=(-L "native=$library" -l static=yokepear)
-fi
-known=$(for call in $CALLS; do printf ' --check-cfg cfg(have_%s)' "$call"; done)
-cfgs=$(for call in $built; do printf ' --cfg have_%s' "$call"; done)
-$rust --crate-name compare $known $cfgs "${link[@]}" --extern reference "$here/main.rs"
-
+find_sources compare "$repo"
+build_reference "$repo" "$build"
 if [ "${1:-}" = samples ]; then
+  "${rust[@]}" --crate-name compare "$here/main.rs"
   mkdir -p "$here/out"
   "$build/compare" samples "$repo/host/expected.txt" "$here/out"
 else
+  link_library "${YOKEPEAR_LIB:-$repo/target/staticlib}"
+  "${rust[@]}" --crate-name compare "$here/main.rs"
   "$build/compare" "$@"
 fi

@@ -103,6 +103,7 @@ pub fn random(kind: Kind, digits: usize, random: &mut Random) -> String {
 }
 
 /// Texts that are malformed, or well formed for one kind alone, or refused by sign or size.
+#[rustfmt::skip]
 pub const MALFORMED: [&str; 64] = [
     "", "-", "--1", "+1", "+0", "-0", "00", "007", "-007", "01", "-01", "000", " 1", "1 ", "1 000",
     "1,000", "1_000", "0x10", "1e3", "inf", "nan", "один", "١", "²", "1.", "1.0", "1.5", "1.00",

@@ -106,7 +106,7 @@ static struct request placed(const struct request *r, int at_end) {
 }
 
 static void expect(const struct request *r, uint32_t number, const uint8_t *bytes, size_t length) {
-  size_t rooms[] = {LARGE,  0, 1, length + 1, length + 2, length, length - (length > 0),
+  size_t rooms[] = {LARGE, 0, 1, length + 1, length + 2, length, length - (length > 0),
                     length - 2 * (length > 1)};
   for (int at_end = 0; at_end < 2; at_end++) {
     struct request copy = placed(r, at_end);

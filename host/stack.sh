@@ -3,5 +3,5 @@
 set -euo pipefail
 . "$(dirname "${BASH_SOURCE[0]}")/common.sh"
 # Bound at the start: a first call to memcpy must not be counted with the linker's own stack.
-$compile -Wl,-z,now "$host/stack.c" "$host/ask.c" "$archive" -o "$build/stack"
+"${compile[@]}" -Wl,-z,now "$host/stack.c" "$host/ask.c" "$archive" -o "$build/stack"
 "$build/stack" "$@"

@@ -4,7 +4,7 @@
 set -euo pipefail
 . "$(dirname "${BASH_SOURCE[0]}")/common.sh"
 needed=$(nm -u "$archive" | awk '$1 == "U" || $1 == "w" {print $2}' | sort -u)
-echo "undefined symbols: $(echo $needed)"
+echo "undefined symbols:" ${needed:-none}
 size --format=sysv "$archive" | awk '
   $1 ~ /^\.text/ {text += $2}
   $1 ~ /^\.rodata/ || $1 ~ /^\.data\.rel\.ro/ {constants += $2}
@@ -13,5 +13,5 @@ size --format=sysv "$archive" | awk '
     printf "code %d bytes, constants %d bytes, state %d bytes\n", text, constants, state
     exit state > 0
   }'
-other=$(echo "$needed" | grep -vx -e memcpy -e memset || true)
-[ -z "$other" ] || { echo "needs more than memcpy and memset: $(echo $other)" >&2; exit 1; }
+other=$(grep -vx -e memcpy -e memset -e '' <<< "$needed" || true)
+[ -z "$other" ] || { echo "needs more than memcpy and memset" >&2; exit 1; }

@@ -3,13 +3,12 @@
 # and its stack. Ends non-zero at a difference. YOKEPEAR_LIB is the static library's folder.
 set -euo pipefail
 . "$(dirname "${BASH_SOURCE[0]}")/common.sh"
-[ -n "$built" ] || { echo "the archive has none of the calls" >&2; exit 1; }
+say_missing
 "$host/header.sh"
 sources=(test.c test_table.c test_texts.c test_codes.c test_phrases.c ask.c guard.c expect.c)
-$compile "${sources[@]/#/$host/}" "$archive" -o "$build/test"
+"${compile[@]}" "${sources[@]/#/$host/}" "$archive" -o "$build/test"
 "$build/test" "$host/expected.txt"
-$compile "$host/price_list.c" "$archive" -o "$build/price_list"
+"${compile[@]}" "$host/price_list.c" "$archive" -o "$build/price_list"
 "$build/price_list"
-say_missing "$built"
 "$host/symbols.sh"
 "$host/stack.sh"

@@ -55,7 +55,7 @@ class Crate:
     def specs(self):
         rows = ['(%s)' % ' ∷ '.join(['(%d, %d)' % (k, m) for k, m, w in reversed(part)] + ['[]']) for part in self.parts]
         self.write('specs/Lib.antt', 'pub mod Meanings\n')
-        self.write('specs/Meanings.antt', '''-- What the words of the %s numbers mean, by their keys: 1 to 999 a number, 1000 and more a scale word of that order, 2001 minus, 0 nothing.
+        self.write('specs/Meanings.antt', '''-- What the words of the %s numbers mean, by their keys: 1 to 999 a number, 1000 and more a scale word of that order (zero's word closes a group of order 0), 2001 minus, 0 nothing.
 -- What a reader makes of these is held against the grammar's own words afterwards, so nothing here has to be believed.
 -- Assumes nothing.
 use Prim.Native.Nat.{ℕ}

@@ -3,8 +3,8 @@
 # A part moves into the header when the library has its calls: assemble.sh 20-french > new.h
 set -euo pipefail
 here=$(cd "$(dirname "${BASH_SOURCE[0]}")" && pwd)
-parts=("$@")
-[ $# -gt 0 ] || parts=($(cd "$here" && ls *.h.part | sed 's/\.h\.part$//'))
+parts=("${@/%/.h.part}")
+[ $# -gt 0 ] || mapfile -t parts < <(cd "$here" && printf '%s\n' *.h.part)
 sed '/---- end of the calls ----/,$d' "$here/../yokepear.h"
-for part in "${parts[@]}"; do cat "$here/$part.h.part"; done
+for part in "${parts[@]}"; do cat "$here/$part"; done
 sed -n '/---- end of the calls ----/,$p' "$here/../yokepear.h"

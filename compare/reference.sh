@@ -1,0 +1,40 @@
+# shellcheck shell=bash disable=SC2034
+# Sourced by the scripts that need the published Rust: where it is, and how it is built.
+# YOKEPEAR_SOURCES is the folder of the published files.
+
+# find_sources WHAT REPO: says that WHAT is not run, and ends with 0, where they are not there.
+find_sources() {
+  local file
+  export YOKEPEAR_SOURCES=${YOKEPEAR_SOURCES:-$2/../shared/docs/src}
+  for file in lang/uk.rs lang/fr.rs currency.rs num2words.rs; do
+    if [ ! -f "$YOKEPEAR_SOURCES/src/$file" ]; then
+      echo "$1: NOT RUN, the published Rust is not there ($YOKEPEAR_SOURCES/src/$file)"
+      exit 0
+    fi
+  done
+  YOKEPEAR_SOURCES=$(cd "$YOKEPEAR_SOURCES" && pwd)
+  command -v rustc > /dev/null || { echo "$1: NOT RUN, there is no rustc"; exit 0; }
+}
+
+# build_reference REPO FOLDER: builds the published files, and leaves in `rust` the command that
+# builds a program upon them.
+build_reference() {
+  local call
+  mkdir -p "$2"
+  rust=(rustc --edition 2021 -O --out-dir "$2" -L "$2")
+  "${rust[@]}" --crate-type rlib --crate-name num_bigfloat "$1/compare/num_bigfloat.rs"
+  # The published files are not ours to mend: their warnings are not shown.
+  "${rust[@]}" --crate-type rlib --crate-name reference --cap-lints allow --extern num_bigfloat \
+    "$1/compare/reference.rs"
+  rust+=(--extern reference)
+  for call in "${CALLS[@]}"; do rust+=(--check-cfg "cfg(have_$call)"); done
+}
+
+# link_library FOLDER: adds the archive and a cfg for each of its calls to the command `rust`.
+link_library() {
+  local call
+  find_calls "$1/libyokepear.a"
+  say_missing
+  rust+=(-L "native=$1" -l static=yokepear)
+  for call in "${BUILT[@]}"; do rust+=(--cfg "have_$call"); done
+}

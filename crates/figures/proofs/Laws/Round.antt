@@ -1,0 +1,81 @@
+-- There and back: a text to its groups to the text, groups to their text to the groups, a money text to its parts to the text.
+-- Assumes nothing.
+use Prim.Native.Nat.{ℕ, zero, suc, _-_, _*_, _^_, _≤_, _<_}
+use native.Mathlib.Nat.{lt-of-lt-of-le, pow-le-pow-right}
+use native.Mathlib.Omega.{arith}
+use mathlib.Core.Bool.{Bool, true, false, not, and-eq-true-iff}
+use mathlib.Core.List.{List, [], _∷_, _++_, append-nil}
+use mathlib.Core.Path.{_≡_, refl, sym, ap, _∙_}
+use lib.Dec.{leb, eqb}
+use lib.ListN.{length, getD, take, drop, length-take}
+use lib.Seq.{split-at}
+use borrow.Author.Tests.{eqb-true, eqb-false, not-true}
+use Rattle.figures.specs.Groups.{groupsOf, total, Groups}
+use Rattle.figures.specs.Money.{pointed, wholeText, hundredthsText, hundredths, moneyFormed, moneyText}
+use Rattle.figures.specs.Text.{digits, plain, value, text, fixed, wellFormed, negative, unsigned, signedText}
+use Rattle.figures.proofs.Laws.Groups.{total-groups, groups-total, total-lt, hold}
+use Rattle.figures.proofs.Laws.Money.{pointed-size, hundredths-size, money-plain, money-pointed, money-some, whole-plain}
+use Rattle.figures.proofs.Laws.Sign.{unsigned-plain, signed-is, formed-unsigned}
+use Rattle.figures.proofs.Laws.Text.{plain-digits, fixed-value, text-value, value-text}
+
+-- text to groups to text: k groups, at most 34
+pub text-round : (k : ℕ) (xs : List ℕ) → k ≤ 34 → wellFormed xs ≡ true → length (unsigned xs) ≤ k * 3 →
+    signedText (negative xs) (total (groupsOf k (value (unsigned xs)))) ≡ xs
+text-round k xs m f h =
+    let p : plain (unsigned xs) ≡ true = formed-unsigned xs f in
+    rw (
+      total-groups k (value (unsigned xs)) (hold k (unsigned xs) (plain-digits (unsigned xs) p) h),
+      text-value (unsigned xs) p (omega arith),
+    )
+    (signed-is xs (negative xs) refl)
+
+-- groups to text to groups
+pub groups-round : (gs : List ℕ) → Groups gs → length gs ≤ 34 → groupsOf (length gs) (value (text (total gs))) ≡ gs
+groups-round gs g m =
+    let h : total gs < 10 ^ 102 = lt-of-lt-of-le (total-lt gs g) (pow-le-pow-right {n = 1000} (omega arith) {i = length gs} {j = 34} m) in
+    rw (value-text (total gs) h) (groups-total gs g)
+
+-- two texts with the same groups and the same sign are the same
+pub same-groups : (k : ℕ) (xs ys : List ℕ) → k ≤ 34 → wellFormed xs ≡ true → wellFormed ys ≡ true → length (unsigned xs) ≤ k * 3 → length (unsigned ys) ≤ k * 3 →
+    negative xs ≡ negative ys → groupsOf k (value (unsigned xs)) ≡ groupsOf k (value (unsigned ys)) → xs ≡ ys
+same-groups k xs ys m f g h j n e =
+    sym (text-round k xs m f h) ∙ rw (n, e) (text-round k ys m g j)
+
+-- a text is what stands before its '.', the '.', and what stands after
+pointed-is : (xs : List ℕ) → pointed xs ≡ true → take (length xs - 3) xs ++ (46 ∷ drop (length xs - 2) xs) ≡ xs
+pointed-is xs e =
+    let l : 3 ≤ length xs = pointed-size xs e in
+    let i : length xs - 3 < length xs = omega arith in
+    let d : getD xs (length xs - 3) 0 ≡ 46 = eqb-true (getD xs (length xs - 3) 0) 46 (and-eq-true-iff (leb 3 (length xs)) (eqb (getD xs (length xs - 3) 0) 46) .0 e .1) in
+    let k : suc (length xs - 3) ≡ length xs - 2 = omega arith in
+    sym (rw (d, k) at (split-at xs (length xs - 3) 0 i))
+
+negative-take : (k : ℕ) (xs : List ℕ) → negative xs ≡ false → negative (take k xs) ≡ false
+negative-take zero xs e = refl
+negative-take (suc k) [] e = refl
+negative-take (suc k) (x ∷ r) e = e
+
+-- a money text is that of its whole part and its hundredths
+pub money-round : (xs : List ℕ) → moneyFormed xs ≡ true → negative xs ≡ false → length xs ≤ 102 →
+    moneyText (value (unsigned (wholeText xs))) (value (hundredthsText xs)) ≡ xs
+money-round xs f n h = go (pointed xs) refl
+  where
+    go : (t : Bool) → pointed xs ≡ t → moneyText (value (unsigned (wholeText xs))) (value (hundredthsText xs)) ≡ xs
+    go false e =
+        let u : unsigned xs ≡ xs = unsigned-plain xs n in
+        let p : plain xs ≡ true = ap plain (sym u) ∙ formed-unsigned xs (sym (money-plain xs e) ∙ f) in
+        rw (e, u) (append-nil (text (value xs)) ∙ text-value xs p h)
+    go true e =
+        let w : List ℕ = take (length xs - 3) xs in
+        let d : List ℕ = drop (length xs - 2) xs in
+        let ew : unsigned (wholeText xs) ≡ w = rw e (unsigned-plain w (negative-take (length xs - 3) xs n)) in
+        let ed : hundredthsText xs ≡ d = rw e in
+        let pw : plain w ≡ true = ap plain (sym ew) ∙ whole-plain xs f in
+        let lw : length w ≤ 102 = rw length-take (omega arith) in
+        let c = and-eq-true-iff (digits (hundredthsText xs)) (not (eqb (value (hundredthsText xs)) 0)) .0 (sym (money-pointed xs e (whole-plain xs f)) ∙ f) in
+        let dd : digits d ≡ true = ap digits (sym ed) ∙ c .0 in
+        let nz : value (hundredthsText xs) ≡ 0 → ⊥ = eqb-false (value (hundredthsText xs)) 0 (not-true (eqb (value (hundredthsText xs)) 0) (c .1)) in
+        let l2 : length d ≡ 2 = ap length (sym ed) ∙ hundredths-size xs e in
+        let a : text (value (unsigned (wholeText xs))) ≡ w = ap (λ (l : List ℕ). text (value l)) ew ∙ text-value w pw lw in
+        let b : fixed 2 (value (hundredthsText xs)) ≡ d = ap (λ (l : List ℕ). fixed 2 (value l)) ed ∙ ap (λ (k : ℕ). fixed k (value d)) (sym l2) ∙ fixed-value d dd in
+        money-some (value (unsigned (wholeText xs))) (value (hundredthsText xs)) nz ∙ rw (a, b) (pointed-is xs e)

@@ -1,0 +1,46 @@
+-- `figures::groups::front` meets its contract: fewer than three digits mean what they mean after zeros.
+-- Assumes nothing.
+use Prim.Native.Nat.{ℕ}
+use native.Mathlib.Omega.{arith}
+use mathlib.Core.Path.{_≡_, refl, sym, ap, _∙_}
+use lib.ListN.{take}
+use borrow.Author.Needs.{needs}
+use Rattle.figures.specs.Text.{value}
+use Rattle.figures.proofs.Laws.Digits.{and-both, digits-at}
+use Rattle.figures.proofs.Laws.Groups.{one-after, two-after}
+use Rattle.figures.proofs.groups.front.Statement.{statement}
+use Rattle.figures.proofs.groups.front.Tie as tie
+
+returns : tie.Need-returns
+returns c = let s = c .before .before .args .s .now in sym (ap (λ (n : ℕ). value (take n s)) (c .if1 .taken))
+
+returns-2 : tie.Need-returns-2
+returns-2 c =
+    let b = c .before .before in
+    let s = b .before .before .before in
+    c .three .ensures ∙ one-after (s .args .s .now) (omega arith) ∙ sym (ap (λ (n : ℕ). value (take n (s .args .s .now))) (b .if2 .taken))
+
+three-requires-2 : tie.Need-three-requires-2
+three-requires-2 c κs =
+    let s = c .before .before .before .before .before in
+    and-both refl (and-both (digits-at (s .args .s .now) 0 (s .pre .0) (omega arith)) (and-both (digits-at (s .args .s .now) 1 (s .pre .0) (omega arith)) refl))
+
+returns-3 : tie.Need-returns-3
+returns-3 c =
+    let b = c .before .before .before in
+    let s = b .before .before .before in
+    let e : 2 ≡ s .args .e = omega arith in
+    c .three2 .ensures ∙ two-after (s .args .s .now) (omega arith) ∙ ap (λ (n : ℕ). value (take n (s .args .s .now))) e
+
+pub front-spec : {M : Type 1} → statement M
+front-spec =
+    tie.close
+    (tie.spec
+    returns
+    (λ c. search needs)
+    (λ c κs. let s = c .before .before .before .before in and-both refl (and-both refl (and-both (digits-at (s .args .s .now) 0 (s .pre .0) (omega arith)) refl)))
+    returns-2
+    (λ c. search needs)
+    (λ c. search needs)
+    three-requires-2
+    returns-3)

@@ -1,0 +1,15 @@
+-- Years (01, "Number texts": "A year is a signed 64-bit number").
+-- Assumes nothing.
+use Prim.Native.Nat.{ℕ, _-_, _^_}
+use mathlib.Core.Bool.{Bool, cond}
+use mathlib.Core.List.{List}
+use lib.IntN.{ℤ, pos, negℤ}
+use Rattle.figures.specs.Text.{value, negative, unsigned}
+
+-- the year that a text means
+abbrev pub yearOf : List ℕ → ℤ
+yearOf xs = cond (negative xs) (negℤ (pos (value (unsigned xs)))) (pos (value (unsigned xs)))
+
+-- the largest magnitude of a negative year, and of any other
+abbrev pub yearLimit : Bool → ℕ
+yearLimit minus = cond minus (2 ^ 63) (2 ^ 63 - 1)
