@@ -8,11 +8,14 @@ use native.Mathlib.Omega.{arith}
 use native.Mathlib.Decide.{ℕ-discrete}
 use borrow.Author.Tests.{eq-eqb, ne-eqb}
 use lib.Dec.{eqb}
-use lib.ListN.{length, take, drop, set, replicate, take-append-drop, length-replicate, replicate-append-replicate}
-use lib.Seq.{length-take-le, set-split, take-take, take-set-le, take-append-le, drop-append-le, drop-append-seam, take-append-seam}
+use lib.ListN.{length, length-take, take, drop, set, replicate, take-append-drop, length-replicate, replicate-append-replicate}
+use lib.Seq.{drop-drop, length-take-le, set-split, take-take, take-set-le, take-append-le, drop-append-le, drop-append-seam, take-append-seam}
 use Rattle.base.specs.Join.{Word}
 use Rattle.figures.specs.Groups.{Groups}
+use Rattle.phrase.proofs.Laws.{from, from-is}
+use Rattle.tokens.specs.Tokens.{split}
 use Rattle.read_uk.specs.Reading.{Taken, taken, sums, left}
+use Rattle.read_uk.proofs.Falls.{sums-length}
 
 abbrev pub zeros : ℕ → List ℕ
 zeros k = replicate k 0
@@ -47,6 +50,10 @@ module _ (ws : List Word) where
         rw (a, n) (p .1),
       )
 
+-- a buffer of groups whose first k are 0 has them
+pub holds : (xs : List ℕ) (k : ℕ) → take k xs ≡ zeros k → k ≤ length xs
+holds xs k z = omega (arith, length-take k xs, ap length z, length-replicate {A = ℕ} k 0)
+
 -- a buffer of groups whose first k are 0
 module _ (xs : List ℕ) (k : ℕ) (z : take k xs ≡ zeros k) where
   split-at : zeros k ++ drop k xs ≡ xs
@@ -59,13 +66,15 @@ module _ (xs : List ℕ) (k : ℕ) (z : take k xs ≡ zeros k) where
       taken-zeros : (o d k : ℕ) → o + d ≡ k → take o (zeros k) ≡ zeros o
       taken-zeros o d k e =
           let l = length-replicate {A = ℕ} o 0 in
-          rw (← e, ← replicate-append-replicate o d 0) (rw l at (take-append-seam (zeros o) (zeros d)))
+          rw (← e, ← replicate-append-replicate {A = ℕ} o d 0) (rw l at (take-append-seam (zeros o) (zeros d)))
 
   -- with the groups below it read, and those above it still 0
   pub set-reads : (o v : ℕ) (r : List ℕ) → o < k → k ≤ length xs → length r ≡ o → r ++ drop o (set xs o v) ≡ (r ++ (v ∷ zeros (k - suc o))) ++ drop k xs
   set-reads o v r h l e =
+      let m = length-take-le o xs (omega arith) in
       let a : drop o (set xs o v) ≡ v ∷ drop (suc o) xs =
-      rw (set-split xs o v (omega arith), ← length-take-le o xs (omega arith)) (drop-append-seam (take o xs) (v ∷ drop (suc o) xs)) in
+      ap (drop o) (set-split xs o v (omega arith)) ∙ ap (λ (i : ℕ). drop i (take o xs ++ (v ∷ drop (suc o) xs))) (sym m)
+      ∙ drop-append-seam (take o xs) (v ∷ drop (suc o) xs) in
       let b : drop (suc o) xs ≡ zeros (k - suc o) ++ drop k xs =
       ap (drop (suc o)) (sym split-at) ∙ drop-append-le (suc o) (zeros k) (drop k xs) (rw length-replicate (omega arith))
       ∙ ap (λ (t : List ℕ). t ++ drop k xs) (dropped-zeros (suc o) (k - suc o) k (omega arith)) in
@@ -74,10 +83,36 @@ module _ (xs : List ℕ) (k : ℕ) (z : take k xs ≡ zeros k) where
       dropped-zeros : (o d k : ℕ) → o + d ≡ k → drop o (zeros k) ≡ zeros d
       dropped-zeros o d k e =
           let l = length-replicate {A = ℕ} o 0 in
-          rw (← e, ← replicate-append-replicate o d 0) (rw l at (drop-append-seam (zeros o) (zeros d)))
+          rw (← e, ← replicate-append-replicate {A = ℕ} o d 0) (rw l at (drop-append-seam (zeros o) (zeros d)))
 
 -- a group below 1000 set among such groups
 pub set-groups : (xs : List ℕ) (i v : ℕ) → v < 1000 → Groups xs → Groups (set xs i v)
 set-groups [] i v h g = tt
 set-groups (x ∷ xs) zero v h g = (h, g .1)
 set-groups (x ∷ xs) (suc i) v h g = (g .0, set-groups xs i v h (g .1))
+
+-- the code's answer: a group taken of the text s, and those below it of the part behind it
+module _ (s xs ys : List ℕ) (k o v at n : ℕ) (z : take k xs ≡ zeros k) (h : o < k) where
+  pub reads-below : v ≡ taken 0 (split s) .value → o ≡ taken 0 (split s) .order → split (drop at s) ≡ taken 0 (split s) .rest
+      → ys ≡ sums o (split (from at s)) ++ drop o (set xs o v) → ys ≡ sums k (split s) ++ drop k xs
+  reads-below a b c e =
+      let w = split s in
+      let q : suc (o + (k - suc o)) ≡ k = omega arith in
+      let r : split (from at s) ≡ taken 0 w .rest = ap split (from-is at s) ∙ c in
+      let p : sums k w ≡ sums o (taken 0 w .rest) ++ (taken 0 w .value ∷ zeros (k - suc o)) =
+      ap (λ (i : ℕ). sums i w) (sym q) ∙ one-below w o (k - suc o) (sym b) .0 in
+      e ∙ ap (λ (t : List Word). sums o t ++ drop o (set xs o v)) r ∙ set-reads xs k z o v (sums o (taken 0 w .rest)) h (holds xs k z) (sums-length o (taken 0 w .rest))
+      ∙ ap (λ (i : ℕ). (sums o (taken 0 w .rest) ++ (i ∷ zeros (k - suc o))) ++ drop k xs) a ∙ ap (λ (t : List ℕ). t ++ drop k xs) (sym p)
+
+  pub left-below : o ≡ taken 0 (split s) .order → split (drop at s) ≡ taken 0 (split s) .rest → split (drop n (from at s)) ≡ left o (split (from at s))
+      → split (drop (at + n) s) ≡ left k (split s)
+  left-below b c e =
+      let w = split s in
+      let q : suc (o + (k - suc o)) ≡ k = omega arith in
+      let r : split (from at s) ≡ taken 0 w .rest = ap split (from-is at s) ∙ c in
+      let p : left k w ≡ left o (taken 0 w .rest) = ap (λ (i : ℕ). left i w) (sym q) ∙ one-below w o (k - suc o) (sym b) .1 in
+      ap split (sym (drop-drop n at s)) ∙ ap (λ (t : List ℕ). split (drop n t)) (sym (from-is at s)) ∙ e ∙ ap (left o) r ∙ sym p
+
+pub zeros-groups : (k : ℕ) → Groups (zeros k)
+zeros-groups zero = tt
+zeros-groups (suc k) = (omega arith, zeros-groups k)

@@ -44,6 +44,14 @@ module _ (k : ℕ) (ws : List Word) where
       let z : total (sums k ws ++ (0 ∷ [])) ≡ total (sums k ws) = total-more (sums k ws) 0 ∙ omega arith in
       (rw (ne-eqb (taken 0 ws .order) k n) z, rw (ne-eqb (taken 0 ws .order) k n) refl)
 
+-- a group of order 0 alone
+pub lone : (ws : List Word) (v : ℕ) (r : List Word) → taken 0 ws ≡ closed v 0 r → (k : ℕ) → total (sums (suc k) ws) ≡ v
+unfolding sums
+lone ws v r e zero = sums-taken 0 ws v r e .0 ∙ omega arith
+lone ws v r e (suc k) =
+    let o : taken 0 ws .order ≡ 0 = ap (λ (t : Taken). t .order) e in
+    sums-over (suc k) ws (λ z. omega arith) .0 ∙ lone ws v r e k
+
 module _ (W : Words) (L : Lawful W) (tail : List Word) (s : Stops tail) where
   -- nothing below order 0, and above it the next group is of a lower order
   nothing : {ws : List Word} {n : ℕ} → Falling W 0 ws n → (ws ≡ []) × (n ≡ 0)

@@ -4,3 +4,6 @@ pub mod Falls
 pub mod Texts
 pub mod Zeros
 pub mod Below
+pub mod Numbers
+pub mod Sentences
+pub mod Compared

@@ -97,11 +97,11 @@ fn minus(s: &[u8]) -> usize
 }
 
 // Whether all groups are 0.
-fn is_zero(gs: &[u16; 22]) -> bool
+fn is_zero(gs: &[u16]) -> bool
     ensures { λ r. ⌜ r ≡ eqb (total (now (gs .entry))) 0 ⌝ }
 {
     let mut i: usize = 0;
-    while i < 22 {
+    while i < gs.len() {
         if gs[i] != 0 {
             return false;
         }

@@ -12,20 +12,20 @@ use Rattle.read_uk.proofs.is_zero.Statement.{statement}
 use Rattle.read_uk.proofs.is_zero.Tie as tie
 
 abbrev Inv-loop : tie.InvT-loop
-Inv-loop gs i₀ i = (i ≤ 22) × ((length gs ≡ 22) × (eqb (total gs) 0 ≡ eqb (total (drop i gs)) 0))
+Inv-loop gs i₀ i = (i ≤ length gs) × (eqb (total gs) 0 ≡ eqb (total (drop i gs)) 0)
 
 abbrev μ-loop : tie.MeasureT-loop
-μ-loop gs i₀ i = 22 - i
+μ-loop gs i₀ i = length gs - i
 
 pub is-zero-spec : {M : Type 1} → statement M
 is-zero-spec =
     tie.close
     (tie.spec Inv-loop μ-loop
-    (λ c. (omega arith, (c .good .0, refl)))
+    (λ c. (omega arith, refl))
     (λ c. search needs)
     (λ c. search needs)
-    (λ c. let at = c .before .before .before .loop in zero-off (c .before .before .before .before .args .gs .now) (at .i) (omega (arith, c .before .before .loop-test .taken, at .inv .1 .0)) (at .inv .1 .1) (c .if1 .taken))
+    (λ c. let at = c .before .before .before .loop in zero-off (c .before .before .before .before .args .gs .now) (at .i) (c .before .before .loop-test .taken) (at .inv .1) (c .if1 .taken))
     (λ c. search needs)
     (λ c. search needs)
-    (λ c. let at = c .before .before .before .loop in (omega (arith, c .before .before .loop-test .taken), (at .inv .1 .0, zero-on (c .before .before .before .before .args .gs .now) (at .i) (omega (arith, c .before .before .loop-test .taken, at .inv .1 .0)) (at .inv .1 .1) (c .if1 .left))))
-    (λ c. let at = c .before .loop in zero-all (c .before .before .args .gs .now) (at .i) (omega (arith, c .loop-test .left, at .inv .1 .0)) (at .inv .1 .1)))
+    (λ c. let at = c .before .before .before .loop in (omega (arith, c .before .before .loop-test .taken), zero-on (c .before .before .before .before .args .gs .now) (at .i) (c .before .before .loop-test .taken) (at .inv .1) (c .if1 .left)))
+    (λ c. let at = c .before .loop in zero-all (c .before .before .args .gs .now) (at .i) (c .loop-test .left) (at .inv .1)))
