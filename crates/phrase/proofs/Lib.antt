@@ -2,3 +2,4 @@ pub mod Laws
 pub mod Added
 pub mod Tells
 pub mod Standing
+pub mod Spoken

@@ -1,9 +1,12 @@
 // Phrases: a plan is built piece by piece, measured, written, and compared with a text. Every kind of phrase goes through these functions.
+use base::Answer;
+
 ghost use mathlib.Core.Path.{_≡_};
 ghost use Prim.Native.Nat.{_+_, _*_, _≤_, _<_};
 ghost use mathlib.Core.List.{[], _∷_};
 ghost use lib.ListN.{length};
 ghost use Rattle.base.specs.Buffer.{over};
+ghost use Rattle.base.specs.Answer.{fitted, Answers};
 ghost use Rattle.base.specs.Decides.{Decides};
 ghost use Rattle.words.specs.Text.{text};
 ghost use Rattle.words.specs.Front.{passed};
@@ -95,6 +98,25 @@ pub fn put(plan: &[u32], out: &mut [u8]) -> usize
     let k = words::put(plan[0] / 256, out);
     let n = put_following(&plan[1..], &mut out[k..]);
     k + n
+}
+
+// Answers with the phrase of a plan: measured first, and written where out holds it.
+pub fn speak(plan: &[u32], out: &mut [u8]) -> Answer
+    requires { ⌜ length (now plan) ≤ 1000 ⌝ }
+    ensures { λ r. ⌜ Answers r (now (out .entry)) (now (out .exit)) (fitted (now (out .entry)) (phraseOf (pieces (now (plan .entry))))) ⌝ }
+{
+    let size = len(plan);
+    if out.len() < size {
+        return Answer {
+            number: 7,
+            length: size,
+        };
+    }
+    put(plan, out);
+    Answer {
+        number: 0,
+        length: size,
+    }
 }
 
 // One more than the length of a piece with its separator, where s begins with them; else 0.

@@ -113,7 +113,7 @@ fn is_zero(gs: &[u16]) -> bool
 // Any bytes, under these settings: what they are by the grammar, with the groups in out.
 pub fn read_cardinal(settings: Settings, s: &[u8], out: &mut [u16; 22]) -> Seen
     requires { ⌜ (settings .gender < 3) × (settings .case < 6) × (now out ≡ replicate 22 0) ⌝ }
-    ensures { λ r. ⌜ ReadOf (ukrainian (settings .gender) (settings .case)) (now (s .entry)) r (now (out .exit)) × Groups (now (out .exit)) ⌝ }
+    ensures { λ r. ⌜ ReadOf (ukrainian (settings .gender) (settings .case)) (now (s .entry)) r (now (out .exit)) × Groups (now (out .exit)) × (length (now (out .exit)) ≡ 22) ⌝ }
 {
     let m = minus(s);
     groups(22, &s[m..], out);

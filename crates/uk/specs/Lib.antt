@@ -1,3 +1,4 @@
+pub mod Settings
 pub mod UkTables
 pub mod Rules
 pub mod Ukrainian

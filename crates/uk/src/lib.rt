@@ -1,6 +1,7 @@
 // Ukrainian: the settings, the numbers of the words by case and place, and the two rules that the code decides. Speller and reader see the contracts alone.
 ghost use mathlib.Core.Path.{_≡_};
 ghost use Prim.Native.Nat.{_<_};
+ghost use Rattle.uk.specs.Settings.{inRange};
 ghost use Rattle.uk.specs.Ukrainian.{genderAt};
 ghost use Rattle.uk.specs.Columns.{agreement as agreementOf, Column};
 
@@ -9,6 +10,17 @@ pub struct Settings {
     pub gender: usize,
     pub number: usize,
     pub case: usize,
+}
+
+// Whether setting numbers are in their ranges.
+pub fn in_range(gender: u32, number: u32, case: u32) -> bool
+    ensures { λ r. ⌜ r ≡ inRange gender number case ⌝ }
+{
+    if gender < 3 {
+        if number < 2 { case < 6 } else { false }
+    } else {
+        false
+    }
 }
 
 // The words by case and place: units of each gender, teens, tens, hundreds, endings of the scale nouns by agreement, zero, minus, the

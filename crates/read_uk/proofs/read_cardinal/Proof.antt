@@ -68,6 +68,7 @@ returns c =
       read-zero _ (lawful (a .args .settings .gender) (a .args .settings .case) (a .pre .0) (a .pre .1)) (a .args .s .now) (c .before .before .before .before .before .before .before .before .before .before .before .groups .last .1 .1 .0) _ (m .size) (m .small) (m .sign) (m .groups)
       (sym (c .before .before .before .before .before .before .before .before .is-zero .ensures) ∙ c .if2 .taken) (decided (c .before .before) .holds (c .before .if1 .taken)),
       m .small,
+      m .size,
     )
 
 returns-2 : tie.Need-returns-2
@@ -77,6 +78,7 @@ returns-2 c =
       read-signed _ (lawful (a .args .settings .gender) (a .args .settings .case) (a .pre .0) (a .pre .1)) (a .args .s .now) (c .before .before .before .before .before .before .before .before .before .before .before .before .groups .last .1 .1 .0) _ (m .size) (m .small) (m .sign) (m .groups)
       true (lt-ltb _ _ (c .if3 .taken)) (sym (c .before .before .before .before .before .before .before .before .before .is-zero .ensures) ∙ c .before .if2 .left) (decided (c .before .before .before) .holds (c .before .before .if1 .taken)),
       m .small,
+      m .size,
     )
 
 returns-3 : tie.Need-returns-3
@@ -86,6 +88,7 @@ returns-3 c =
       read-signed _ (lawful (a .args .settings .gender) (a .args .settings .case) (a .pre .0) (a .pre .1)) (a .args .s .now) (c .before .before .before .before .before .before .before .before .before .before .before .before .groups .last .1 .1 .0) _ (m .size) (m .small) (m .sign) (m .groups)
       false (le-ltb _ _ (c .if3 .left)) (sym (c .before .before .before .before .before .before .before .before .before .is-zero .ensures) ∙ c .before .if2 .left) (decided (c .before .before .before) .holds (c .before .before .if1 .taken)),
       m .small,
+      m .size,
     )
 
 returns-4 : tie.Need-returns-4
@@ -95,6 +98,7 @@ returns-4 c =
       read-none _ (lawful (a .args .settings .gender) (a .args .settings .case) (a .pre .0) (a .pre .1)) (a .args .s .now) (c .before .before .before .before .before .before .before .before .before .before .groups .last .1 .1 .0) _ (m .size) (m .small) (m .sign) (m .groups)
       (decided (c .before) .fails (c .if1 .left)),
       m .small,
+      m .size,
     )
 
 slice-aggregate-stands : tie.Need-slice-aggregate-stands

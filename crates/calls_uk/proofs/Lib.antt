@@ -1,0 +1,3 @@
+pub mod Admitting
+pub mod Entries
+pub mod Theorem

@@ -1,0 +1,21 @@
+-- `calls_uk::from_cardinal` meets its contract.
+-- Assumes nothing.
+use mathlib.Core.Path.{_≡_, sym, _∙_}
+use borrow.Author.Needs.{needs}
+use Rattle.uk.proofs.Ranges.{ranges}
+use Rattle.calls_uk.proofs.Entries.{refusal}
+use Rattle.calls_uk.proofs.from_cardinal.Statement.{statement}
+use Rattle.calls_uk.proofs.from_cardinal.Tie as tie
+
+read-requires : tie.Need-read-requires
+read-requires c κs =
+    let a = c .before .before .before .before .before .args in
+    let r = ranges (a .gender) (a .number) (a .case) (sym (c .before .before .in-range .ensures) ∙ c .before .if1 .taken) in
+    (r .0, r .2)
+
+pub from-cardinal-spec : {M : Type 1} → statement M
+from-cardinal-spec =
+    tie.close
+    (tie.spec (λ c κs. search needs) read-requires (λ c. search needs)
+    (λ c. rw (sym (c .before .before .before .before .before .in-range .ensures) ∙ c .before .before .before .before .if1 .taken) (c .before .before .read .ensures))
+    (λ c. rw (sym (c .before .in-range .ensures) ∙ c .if1 .left) (refusal (c .before .before .before .before .args .out .now) 1)))

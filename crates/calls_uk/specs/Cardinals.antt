@@ -1,0 +1,42 @@
+-- The two calls of Ukrainian cardinals: what is refused, the phrase of a number text, and the value of a sentence as a number text.
+-- Assumes nothing.
+use Prim.Native.Nat.{ℕ}
+use mathlib.Core.Path.{_≡_}
+use mathlib.Core.Bool.{Bool, true, cond}
+use mathlib.Core.List.{List}
+use lib.Dec.{eqb}
+use Rattle.base.specs.Join.{joined}
+use Rattle.figures.specs.Text.{value, negative, unsigned, signedText}
+use Rattle.figures.specs.Groups.{groupsOf}
+use Rattle.figures.specs.Refusals.{numberOf, judgeDigits}
+use Rattle.uk.specs.Settings.{inRange}
+use Rattle.uk.specs.Ukrainian.{ukrainian}
+use Rattle.uk.specs.Cardinal.{cardinalWords}
+use Rattle.uk.specs.Grammar.{Says}
+
+-- 3 or 5 where a number text is refused, else 0 (01, "Number texts": at most 66 digits)
+abbrev pub refusedText : List ℕ → ℕ
+refusedText t = numberOf (judgeDigits true 66 t)
+
+-- none of the conditions 3 to 5 holds of the text
+abbrev pub Admitted : List ℕ → Type 0
+Admitted t = refusedText t ≡ 0
+
+-- the first refusal before the buffer's, or 0 (01, "Where each refusal arises")
+abbrev pub refusedSetting : ℕ → ℕ → ℕ → ℕ
+refusedSetting gender number case = cond (inRange gender number case) 0 1
+
+abbrev pub refusedCardinal : ℕ → ℕ → ℕ → List ℕ → ℕ
+refusedCardinal gender number case t = cond (inRange gender number case) (refusedText t) 1
+
+-- the phrase of an admitted number text
+unfoldable pub cardinal : ℕ → ℕ → List ℕ → List ℕ
+cardinal gender case t =
+    joined (cardinalWords (ukrainian gender case) (eqb (value (unsigned t)) 0) (negative t) (groupsOf 22 (value (unsigned t))))
+
+-- the phrase s is a sentence whose value is the number text t
+pub record Means (gender case : ℕ) (s t : List ℕ) : Type 0 where
+  pub minus : Bool
+  pub magnitude : ℕ
+  pub says : Says (ukrainian gender case) s minus magnitude
+  pub text : t ≡ signedText minus magnitude

@@ -1,0 +1,10 @@
+-- Demand 3 in one place: for each kind that is read back, the whole claim over its definitions. `Readable` (crate base) says it in five lines.
+-- Assumes nothing.
+use Prim.Native.Nat.{ℕ, _<_}
+use Rattle.base.specs.Claim.{Readable}
+use Rattle.calls_uk.specs.Cardinals as uk
+use Rattle.calls_uk.proofs.Theorem as uk-cardinals
+
+-- Ukrainian cardinals, under every gender and case
+pub ukrainian-cardinals : (gender case : ℕ) → gender < 3 → case < 6 → Readable uk.Admitted (uk.cardinal gender case) (uk.Means gender case)
+ukrainian-cardinals = uk-cardinals.readable

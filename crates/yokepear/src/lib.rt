@@ -1,0 +1,33 @@
+// The calls for a host in C. Each hands on to the crate of its kind; the contracts say all that a host may rely on, and ask nothing of it.
+use base::Answer;
+
+ghost use Rattle.base.specs.Answer.{replied, Answers, ReadsUnless};
+ghost use Rattle.calls_uk.specs.Cardinals.{refusedCardinal, refusedSetting, cardinal, Means};
+
+// The cardinal of a number text.
+#[no_mangle]
+pub extern "C" fn yokepear_uk_to_cardinal(
+    gender: u32,
+    number: u32,
+    grammatical_case: u32,
+    text: &[u8],
+    out: &mut [u8],
+) -> Answer
+    ensures { λ r. ⌜ Answers r (now (out .entry)) (now (out .exit)) (replied (refusedCardinal gender number grammatical_case (now (text .entry))) (cardinal gender grammatical_case (now (text .entry))) (now (out .entry))) ⌝ }
+{
+    calls_uk::to_cardinal(gender, number, grammatical_case, text, out)
+}
+
+// The number text of a cardinal.
+#[no_mangle]
+pub extern "C" fn yokepear_uk_from_cardinal(
+    gender: u32,
+    number: u32,
+    grammatical_case: u32,
+    phrase: &[u8],
+    out: &mut [u8],
+) -> Answer
+    ensures { λ r. ⌜ ReadsUnless (refusedSetting gender number grammatical_case) (Means gender grammatical_case) (now (phrase .entry)) r (now (out .entry)) (now (out .exit)) ⌝ }
+{
+    calls_uk::from_cardinal(gender, number, grammatical_case, phrase, out)
+}
