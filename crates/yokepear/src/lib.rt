@@ -9,13 +9,13 @@ ghost use Rattle.calls_uk.specs.Cardinals.{refusedCardinal, refusedSetting, car
 pub extern "C" fn yokepear_uk_to_cardinal(
     gender: u32,
     number: u32,
-    grammatical_case: u32,
+    case: u32,
     text: &[u8],
     out: &mut [u8],
 ) -> Answer
-    ensures { λ r. ⌜ Answers r (now (out .entry)) (now (out .exit)) (replied (refusedCardinal gender number grammatical_case (now (text .entry))) (cardinal gender grammatical_case (now (text .entry))) (now (out .entry))) ⌝ }
+    ensures { λ r. ⌜ Answers r (now (out .entry)) (now (out .exit)) (replied (refusedCardinal gender number case (now (text .entry))) (cardinal gender case (now (text .entry))) (now (out .entry))) ⌝ }
 {
-    calls_uk::to_cardinal(gender, number, grammatical_case, text, out)
+    calls_uk::to_cardinal(gender, number, case, text, out)
 }
 
 // The number text of a cardinal.
@@ -23,11 +23,11 @@ pub extern "C" fn yokepear_uk_to_cardinal(
 pub extern "C" fn yokepear_uk_from_cardinal(
     gender: u32,
     number: u32,
-    grammatical_case: u32,
+    case: u32,
     phrase: &[u8],
     out: &mut [u8],
 ) -> Answer
-    ensures { λ r. ⌜ ReadsUnless (refusedSetting gender number grammatical_case) (Means gender grammatical_case) (now (phrase .entry)) r (now (out .entry)) (now (out .exit)) ⌝ }
+    ensures { λ r. ⌜ ReadsUnless (refusedSetting gender number case) (Means gender case) (now (phrase .entry)) r (now (out .entry)) (now (out .exit)) ⌝ }
 {
-    calls_uk::from_cardinal(gender, number, grammatical_case, phrase, out)
+    calls_uk::from_cardinal(gender, number, case, phrase, out)
 }
