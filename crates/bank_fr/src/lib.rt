@@ -6,6 +6,7 @@ ghost use Prim.Native.Nat.{_≤_, _<_};
 ghost use lib.ListN.{length};
 ghost use Rattle.base.specs.Bank.{textIn};
 ghost use Rattle.base.specs.Buffer.{over};
+ghost use Rattle.base.specs.Front.{passed};
 ghost use Rattle.bank_fr.specs.Names.{names};
 
 // The length of the text with this number.
@@ -112,5 +113,20 @@ pub fn put(id: u32, out: &mut [u8]) -> usize
         4 => parts::part4(id, out),
         5 => parts::part5(id, out),
         _ => 0,
+    }
+}
+
+// One more than the length of the text with this number, where s begins with it; else 0.
+pub fn pass(id: u32, s: &[u8]) -> usize
+    ensures { λ r. ⌜ r ≡ passed (textIn names id) (now (s .entry)) ⌝ }
+{
+    match id / 16 {
+        0 => parts::front0(id, s),
+        1 => parts::front1(id, s),
+        2 => parts::front2(id, s),
+        3 => parts::front3(id, s),
+        4 => parts::front4(id, s),
+        5 => parts::front5(id, s),
+        _ => 1,
     }
 }

@@ -1,11 +1,14 @@
 // The texts as byte strings, by their numbers, in functions of 16 arms: one function of all would take the check too long.
 // The last arm of each is for no number. It returns no constant: so the compiler keeps each text's stores in its own arm.
+use base::front;
 use bytes::copy;
+
 ghost use mathlib.Core.Path.{_≡_};
 ghost use Prim.Native.Nat.{_≤_, _<_};
 ghost use lib.ListN.{length};
 ghost use Rattle.base.specs.Bank.{textIn};
 ghost use Rattle.base.specs.Buffer.{over};
+ghost use Rattle.base.specs.Front.{passed};
 ghost use Rattle.bank_money.specs.Names.{names};
 
 const W1: [u8; 12] = *b"\xd0\xb4\xd0\xb8\xd1\x80\xd1\x85\xd0\xb0\xd0\xbc"; // дирхам
@@ -193,11 +196,23 @@ fn put_02(w: [u8; 2], out: &mut [u8]) -> usize
     copy(&w, out)
 }
 
+fn pass_02(w: [u8; 2], s: &[u8]) -> usize
+    ensures { λ r. ⌜ r ≡ passed w (now (s .entry)) ⌝ }
+{
+    if front(&w, s) { 3 } else { 0 }
+}
+
 fn put_04(w: [u8; 4], out: &mut [u8]) -> usize
     requires { ⌜ length w ≤ length (now out) ⌝ }
     ensures { λ r. ⌜ (r ≡ length w) × (now (out .exit) ≡ over (now (out .entry)) w) ⌝ }
 {
     copy(&w, out)
+}
+
+fn pass_04(w: [u8; 4], s: &[u8]) -> usize
+    ensures { λ r. ⌜ r ≡ passed w (now (s .entry)) ⌝ }
+{
+    if front(&w, s) { 5 } else { 0 }
 }
 
 fn put_05(w: [u8; 5], out: &mut [u8]) -> usize
@@ -207,11 +222,23 @@ fn put_05(w: [u8; 5], out: &mut [u8]) -> usize
     copy(&w, out)
 }
 
+fn pass_05(w: [u8; 5], s: &[u8]) -> usize
+    ensures { λ r. ⌜ r ≡ passed w (now (s .entry)) ⌝ }
+{
+    if front(&w, s) { 6 } else { 0 }
+}
+
 fn put_06(w: [u8; 6], out: &mut [u8]) -> usize
     requires { ⌜ length w ≤ length (now out) ⌝ }
     ensures { λ r. ⌜ (r ≡ length w) × (now (out .exit) ≡ over (now (out .entry)) w) ⌝ }
 {
     copy(&w, out)
+}
+
+fn pass_06(w: [u8; 6], s: &[u8]) -> usize
+    ensures { λ r. ⌜ r ≡ passed w (now (s .entry)) ⌝ }
+{
+    if front(&w, s) { 7 } else { 0 }
 }
 
 fn put_08(w: [u8; 8], out: &mut [u8]) -> usize
@@ -221,11 +248,23 @@ fn put_08(w: [u8; 8], out: &mut [u8]) -> usize
     copy(&w, out)
 }
 
+fn pass_08(w: [u8; 8], s: &[u8]) -> usize
+    ensures { λ r. ⌜ r ≡ passed w (now (s .entry)) ⌝ }
+{
+    if front(&w, s) { 9 } else { 0 }
+}
+
 fn put_10(w: [u8; 10], out: &mut [u8]) -> usize
     requires { ⌜ length w ≤ length (now out) ⌝ }
     ensures { λ r. ⌜ (r ≡ length w) × (now (out .exit) ≡ over (now (out .entry)) w) ⌝ }
 {
     copy(&w, out)
+}
+
+fn pass_10(w: [u8; 10], s: &[u8]) -> usize
+    ensures { λ r. ⌜ r ≡ passed w (now (s .entry)) ⌝ }
+{
+    if front(&w, s) { 11 } else { 0 }
 }
 
 fn put_11(w: [u8; 11], out: &mut [u8]) -> usize
@@ -235,11 +274,23 @@ fn put_11(w: [u8; 11], out: &mut [u8]) -> usize
     copy(&w, out)
 }
 
+fn pass_11(w: [u8; 11], s: &[u8]) -> usize
+    ensures { λ r. ⌜ r ≡ passed w (now (s .entry)) ⌝ }
+{
+    if front(&w, s) { 12 } else { 0 }
+}
+
 fn put_12(w: [u8; 12], out: &mut [u8]) -> usize
     requires { ⌜ length w ≤ length (now out) ⌝ }
     ensures { λ r. ⌜ (r ≡ length w) × (now (out .exit) ≡ over (now (out .entry)) w) ⌝ }
 {
     copy(&w, out)
+}
+
+fn pass_12(w: [u8; 12], s: &[u8]) -> usize
+    ensures { λ r. ⌜ r ≡ passed w (now (s .entry)) ⌝ }
+{
+    if front(&w, s) { 13 } else { 0 }
 }
 
 fn put_14(w: [u8; 14], out: &mut [u8]) -> usize
@@ -249,6 +300,12 @@ fn put_14(w: [u8; 14], out: &mut [u8]) -> usize
     copy(&w, out)
 }
 
+fn pass_14(w: [u8; 14], s: &[u8]) -> usize
+    ensures { λ r. ⌜ r ≡ passed w (now (s .entry)) ⌝ }
+{
+    if front(&w, s) { 15 } else { 0 }
+}
+
 fn put_16(w: [u8; 16], out: &mut [u8]) -> usize
     requires { ⌜ length w ≤ length (now out) ⌝ }
     ensures { λ r. ⌜ (r ≡ length w) × (now (out .exit) ≡ over (now (out .entry)) w) ⌝ }
@@ -256,11 +313,23 @@ fn put_16(w: [u8; 16], out: &mut [u8]) -> usize
     copy(&w, out)
 }
 
+fn pass_16(w: [u8; 16], s: &[u8]) -> usize
+    ensures { λ r. ⌜ r ≡ passed w (now (s .entry)) ⌝ }
+{
+    if front(&w, s) { 17 } else { 0 }
+}
+
 fn put_18(w: [u8; 18], out: &mut [u8]) -> usize
     requires { ⌜ length w ≤ length (now out) ⌝ }
     ensures { λ r. ⌜ (r ≡ length w) × (now (out .exit) ≡ over (now (out .entry)) w) ⌝ }
 {
     copy(&w, out)
+}
+
+fn pass_18(w: [u8; 18], s: &[u8]) -> usize
+    ensures { λ r. ⌜ r ≡ passed w (now (s .entry)) ⌝ }
+{
+    if front(&w, s) { 19 } else { 0 }
 }
 
 pub fn part0(id: u32, out: &mut [u8]) -> usize
@@ -284,6 +353,30 @@ pub fn part0(id: u32, out: &mut [u8]) -> usize
         14 => put_04(W14, out),
         15 => put_06(W15, out),
         _ => id as usize,
+    }
+}
+
+pub fn front0(id: u32, s: &[u8]) -> usize
+    requires { ⌜ (0 ≤ id) × (id < 16) ⌝ }
+    ensures { λ r. ⌜ r ≡ passed (textIn names id) (now (s .entry)) ⌝ }
+{
+    match id {
+        1 => pass_12(W1, s),
+        2 => pass_08(W2, s),
+        3 => pass_10(W3, s),
+        4 => pass_08(W4, s),
+        5 => pass_10(W5, s),
+        6 => pass_06(W6, s),
+        7 => pass_10(W7, s),
+        8 => pass_10(W8, s),
+        9 => pass_08(W9, s),
+        10 => pass_08(W10, s),
+        11 => pass_08(W11, s),
+        12 => pass_06(W12, s),
+        13 => pass_10(W13, s),
+        14 => pass_04(W14, s),
+        15 => pass_06(W15, s),
+        _ => 1,
     }
 }
 
@@ -312,6 +405,31 @@ pub fn part1(id: u32, out: &mut [u8]) -> usize
     }
 }
 
+pub fn front1(id: u32, s: &[u8]) -> usize
+    requires { ⌜ (16 ≤ id) × (id < 32) ⌝ }
+    ensures { λ r. ⌜ r ≡ passed (textIn names id) (now (s .entry)) ⌝ }
+{
+    match id {
+        16 => pass_05(W16, s),
+        17 => pass_12(W17, s),
+        18 => pass_08(W18, s),
+        19 => pass_06(W19, s),
+        20 => pass_08(W20, s),
+        21 => pass_08(W21, s),
+        22 => pass_08(W22, s),
+        23 => pass_06(W23, s),
+        24 => pass_10(W24, s),
+        25 => pass_08(W25, s),
+        26 => pass_08(W26, s),
+        27 => pass_08(W27, s),
+        28 => pass_14(W28, s),
+        29 => pass_08(W29, s),
+        30 => pass_12(W30, s),
+        31 => pass_06(W31, s),
+        _ => 1,
+    }
+}
+
 pub fn part2(id: u32, out: &mut [u8]) -> usize
     requires { ⌜ (32 ≤ id) × ((id < 48) × (length (textIn names id) ≤ length (now out))) ⌝ }
     ensures { λ r. ⌜ (r ≡ length (textIn names id)) × (now (out .exit) ≡ over (now (out .entry)) (textIn names id)) ⌝ }
@@ -334,6 +452,31 @@ pub fn part2(id: u32, out: &mut [u8]) -> usize
         46 => put_04(W46, out),
         47 => put_02(W47, out),
         _ => id as usize,
+    }
+}
+
+pub fn front2(id: u32, s: &[u8]) -> usize
+    requires { ⌜ (32 ≤ id) × (id < 48) ⌝ }
+    ensures { λ r. ⌜ r ≡ passed (textIn names id) (now (s .entry)) ⌝ }
+{
+    match id {
+        32 => pass_14(W32, s),
+        33 => pass_16(W33, s),
+        34 => pass_08(W34, s),
+        35 => pass_06(W35, s),
+        36 => pass_08(W36, s),
+        37 => pass_08(W37, s),
+        38 => pass_06(W38, s),
+        39 => pass_08(W39, s),
+        40 => pass_06(W40, s),
+        41 => pass_14(W41, s),
+        42 => pass_08(W42, s),
+        43 => pass_12(W43, s),
+        44 => pass_11(W44, s),
+        45 => pass_06(W45, s),
+        46 => pass_04(W46, s),
+        47 => pass_02(W47, s),
+        _ => 1,
     }
 }
 
@@ -362,6 +505,31 @@ pub fn part3(id: u32, out: &mut [u8]) -> usize
     }
 }
 
+pub fn front3(id: u32, s: &[u8]) -> usize
+    requires { ⌜ (48 ≤ id) × (id < 64) ⌝ }
+    ensures { λ r. ⌜ r ≡ passed (textIn names id) (now (s .entry)) ⌝ }
+{
+    match id {
+        48 => pass_02(W48, s),
+        49 => pass_04(W49, s),
+        50 => pass_02(W50, s),
+        51 => pass_02(W51, s),
+        52 => pass_04(W52, s),
+        53 => pass_04(W53, s),
+        54 => pass_06(W54, s),
+        55 => pass_04(W55, s),
+        56 => pass_02(W56, s),
+        57 => pass_02(W57, s),
+        58 => pass_02(W58, s),
+        59 => pass_04(W59, s),
+        60 => pass_04(W60, s),
+        61 => pass_06(W61, s),
+        62 => pass_04(W62, s),
+        63 => pass_02(W63, s),
+        _ => 1,
+    }
+}
+
 pub fn part4(id: u32, out: &mut [u8]) -> usize
     requires { ⌜ (64 ≤ id) × ((id < 80) × (length (textIn names id) ≤ length (now out))) ⌝ }
     ensures { λ r. ⌜ (r ≡ length (textIn names id)) × (now (out .exit) ≡ over (now (out .entry)) (textIn names id)) ⌝ }
@@ -387,6 +555,31 @@ pub fn part4(id: u32, out: &mut [u8]) -> usize
     }
 }
 
+pub fn front4(id: u32, s: &[u8]) -> usize
+    requires { ⌜ (64 ≤ id) × (id < 80) ⌝ }
+    ensures { λ r. ⌜ r ≡ passed (textIn names id) (now (s .entry)) ⌝ }
+{
+    match id {
+        64 => pass_04(W64, s),
+        65 => pass_02(W65, s),
+        66 => pass_04(W66, s),
+        67 => pass_04(W67, s),
+        68 => pass_06(W68, s),
+        69 => pass_06(W69, s),
+        70 => pass_04(W70, s),
+        71 => pass_04(W71, s),
+        72 => pass_06(W72, s),
+        73 => pass_12(W73, s),
+        74 => pass_12(W74, s),
+        75 => pass_12(W75, s),
+        76 => pass_14(W76, s),
+        77 => pass_14(W77, s),
+        78 => pass_14(W78, s),
+        79 => pass_16(W79, s),
+        _ => 1,
+    }
+}
+
 pub fn part5(id: u32, out: &mut [u8]) -> usize
     requires { ⌜ (80 ≤ id) × ((id < 96) × (length (textIn names id) ≤ length (now out))) ⌝ }
     ensures { λ r. ⌜ (r ≡ length (textIn names id)) × (now (out .exit) ≡ over (now (out .entry)) (textIn names id)) ⌝ }
@@ -403,5 +596,24 @@ pub fn part5(id: u32, out: &mut [u8]) -> usize
         88 => put_18(W88, out),
         89 => put_16(W89, out),
         _ => 0,
+    }
+}
+
+pub fn front5(id: u32, s: &[u8]) -> usize
+    requires { ⌜ (80 ≤ id) × (id < 96) ⌝ }
+    ensures { λ r. ⌜ r ≡ passed (textIn names id) (now (s .entry)) ⌝ }
+{
+    match id {
+        80 => pass_14(W80, s),
+        81 => pass_14(W81, s),
+        82 => pass_14(W82, s),
+        83 => pass_14(W83, s),
+        84 => pass_14(W84, s),
+        85 => pass_16(W85, s),
+        86 => pass_14(W86, s),
+        87 => pass_16(W87, s),
+        88 => pass_18(W88, s),
+        89 => pass_16(W89, s),
+        _ => 1,
     }
 }

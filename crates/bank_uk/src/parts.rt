@@ -1,11 +1,14 @@
 // The texts as byte strings, by their numbers, in functions of 16 arms: one function of all would take the check too long.
 // The last arm of each is for no number. It returns no constant: so the compiler keeps each text's stores in its own arm.
+use base::front;
 use bytes::copy;
+
 ghost use mathlib.Core.Path.{_≡_};
 ghost use Prim.Native.Nat.{_≤_, _<_};
 ghost use lib.ListN.{length};
 ghost use Rattle.base.specs.Bank.{textIn};
 ghost use Rattle.base.specs.Buffer.{over};
+ghost use Rattle.base.specs.Front.{passed};
 ghost use Rattle.bank_uk.specs.Names.{names};
 
 const W1: [u8; 10] = *b"\xd0\xbc\xd1\x96\xd0\xbd\xd1\x83\xd1\x81"; // мінус
@@ -319,11 +322,23 @@ fn put_02(w: [u8; 2], out: &mut [u8]) -> usize
     copy(&w, out)
 }
 
+fn pass_02(w: [u8; 2], s: &[u8]) -> usize
+    ensures { λ r. ⌜ r ≡ passed w (now (s .entry)) ⌝ }
+{
+    if front(&w, s) { 3 } else { 0 }
+}
+
 fn put_04(w: [u8; 4], out: &mut [u8]) -> usize
     requires { ⌜ length w ≤ length (now out) ⌝ }
     ensures { λ r. ⌜ (r ≡ length w) × (now (out .exit) ≡ over (now (out .entry)) w) ⌝ }
 {
     copy(&w, out)
+}
+
+fn pass_04(w: [u8; 4], s: &[u8]) -> usize
+    ensures { λ r. ⌜ r ≡ passed w (now (s .entry)) ⌝ }
+{
+    if front(&w, s) { 5 } else { 0 }
 }
 
 fn put_06(w: [u8; 6], out: &mut [u8]) -> usize
@@ -333,11 +348,23 @@ fn put_06(w: [u8; 6], out: &mut [u8]) -> usize
     copy(&w, out)
 }
 
+fn pass_06(w: [u8; 6], s: &[u8]) -> usize
+    ensures { λ r. ⌜ r ≡ passed w (now (s .entry)) ⌝ }
+{
+    if front(&w, s) { 7 } else { 0 }
+}
+
 fn put_08(w: [u8; 8], out: &mut [u8]) -> usize
     requires { ⌜ length w ≤ length (now out) ⌝ }
     ensures { λ r. ⌜ (r ≡ length w) × (now (out .exit) ≡ over (now (out .entry)) w) ⌝ }
 {
     copy(&w, out)
+}
+
+fn pass_08(w: [u8; 8], s: &[u8]) -> usize
+    ensures { λ r. ⌜ r ≡ passed w (now (s .entry)) ⌝ }
+{
+    if front(&w, s) { 9 } else { 0 }
 }
 
 fn put_10(w: [u8; 10], out: &mut [u8]) -> usize
@@ -347,11 +374,23 @@ fn put_10(w: [u8; 10], out: &mut [u8]) -> usize
     copy(&w, out)
 }
 
+fn pass_10(w: [u8; 10], s: &[u8]) -> usize
+    ensures { λ r. ⌜ r ≡ passed w (now (s .entry)) ⌝ }
+{
+    if front(&w, s) { 11 } else { 0 }
+}
+
 fn put_12(w: [u8; 12], out: &mut [u8]) -> usize
     requires { ⌜ length w ≤ length (now out) ⌝ }
     ensures { λ r. ⌜ (r ≡ length w) × (now (out .exit) ≡ over (now (out .entry)) w) ⌝ }
 {
     copy(&w, out)
+}
+
+fn pass_12(w: [u8; 12], s: &[u8]) -> usize
+    ensures { λ r. ⌜ r ≡ passed w (now (s .entry)) ⌝ }
+{
+    if front(&w, s) { 13 } else { 0 }
 }
 
 fn put_14(w: [u8; 14], out: &mut [u8]) -> usize
@@ -361,11 +400,23 @@ fn put_14(w: [u8; 14], out: &mut [u8]) -> usize
     copy(&w, out)
 }
 
+fn pass_14(w: [u8; 14], s: &[u8]) -> usize
+    ensures { λ r. ⌜ r ≡ passed w (now (s .entry)) ⌝ }
+{
+    if front(&w, s) { 15 } else { 0 }
+}
+
 fn put_16(w: [u8; 16], out: &mut [u8]) -> usize
     requires { ⌜ length w ≤ length (now out) ⌝ }
     ensures { λ r. ⌜ (r ≡ length w) × (now (out .exit) ≡ over (now (out .entry)) w) ⌝ }
 {
     copy(&w, out)
+}
+
+fn pass_16(w: [u8; 16], s: &[u8]) -> usize
+    ensures { λ r. ⌜ r ≡ passed w (now (s .entry)) ⌝ }
+{
+    if front(&w, s) { 17 } else { 0 }
 }
 
 fn put_18(w: [u8; 18], out: &mut [u8]) -> usize
@@ -375,11 +426,23 @@ fn put_18(w: [u8; 18], out: &mut [u8]) -> usize
     copy(&w, out)
 }
 
+fn pass_18(w: [u8; 18], s: &[u8]) -> usize
+    ensures { λ r. ⌜ r ≡ passed w (now (s .entry)) ⌝ }
+{
+    if front(&w, s) { 19 } else { 0 }
+}
+
 fn put_20(w: [u8; 20], out: &mut [u8]) -> usize
     requires { ⌜ length w ≤ length (now out) ⌝ }
     ensures { λ r. ⌜ (r ≡ length w) × (now (out .exit) ≡ over (now (out .entry)) w) ⌝ }
 {
     copy(&w, out)
+}
+
+fn pass_20(w: [u8; 20], s: &[u8]) -> usize
+    ensures { λ r. ⌜ r ≡ passed w (now (s .entry)) ⌝ }
+{
+    if front(&w, s) { 21 } else { 0 }
 }
 
 fn put_22(w: [u8; 22], out: &mut [u8]) -> usize
@@ -389,11 +452,23 @@ fn put_22(w: [u8; 22], out: &mut [u8]) -> usize
     copy(&w, out)
 }
 
+fn pass_22(w: [u8; 22], s: &[u8]) -> usize
+    ensures { λ r. ⌜ r ≡ passed w (now (s .entry)) ⌝ }
+{
+    if front(&w, s) { 23 } else { 0 }
+}
+
 fn put_24(w: [u8; 24], out: &mut [u8]) -> usize
     requires { ⌜ length w ≤ length (now out) ⌝ }
     ensures { λ r. ⌜ (r ≡ length w) × (now (out .exit) ≡ over (now (out .entry)) w) ⌝ }
 {
     copy(&w, out)
+}
+
+fn pass_24(w: [u8; 24], s: &[u8]) -> usize
+    ensures { λ r. ⌜ r ≡ passed w (now (s .entry)) ⌝ }
+{
+    if front(&w, s) { 25 } else { 0 }
 }
 
 fn put_26(w: [u8; 26], out: &mut [u8]) -> usize
@@ -403,11 +478,23 @@ fn put_26(w: [u8; 26], out: &mut [u8]) -> usize
     copy(&w, out)
 }
 
+fn pass_26(w: [u8; 26], s: &[u8]) -> usize
+    ensures { λ r. ⌜ r ≡ passed w (now (s .entry)) ⌝ }
+{
+    if front(&w, s) { 27 } else { 0 }
+}
+
 fn put_28(w: [u8; 28], out: &mut [u8]) -> usize
     requires { ⌜ length w ≤ length (now out) ⌝ }
     ensures { λ r. ⌜ (r ≡ length w) × (now (out .exit) ≡ over (now (out .entry)) w) ⌝ }
 {
     copy(&w, out)
+}
+
+fn pass_28(w: [u8; 28], s: &[u8]) -> usize
+    ensures { λ r. ⌜ r ≡ passed w (now (s .entry)) ⌝ }
+{
+    if front(&w, s) { 29 } else { 0 }
 }
 
 fn put_32(w: [u8; 32], out: &mut [u8]) -> usize
@@ -417,11 +504,23 @@ fn put_32(w: [u8; 32], out: &mut [u8]) -> usize
     copy(&w, out)
 }
 
+fn pass_32(w: [u8; 32], s: &[u8]) -> usize
+    ensures { λ r. ⌜ r ≡ passed w (now (s .entry)) ⌝ }
+{
+    if front(&w, s) { 33 } else { 0 }
+}
+
 fn put_34(w: [u8; 34], out: &mut [u8]) -> usize
     requires { ⌜ length w ≤ length (now out) ⌝ }
     ensures { λ r. ⌜ (r ≡ length w) × (now (out .exit) ≡ over (now (out .entry)) w) ⌝ }
 {
     copy(&w, out)
+}
+
+fn pass_34(w: [u8; 34], s: &[u8]) -> usize
+    ensures { λ r. ⌜ r ≡ passed w (now (s .entry)) ⌝ }
+{
+    if front(&w, s) { 35 } else { 0 }
 }
 
 pub fn part0(id: u32, out: &mut [u8]) -> usize
@@ -445,6 +544,30 @@ pub fn part0(id: u32, out: &mut [u8]) -> usize
         14 => put_08(W14, out),
         15 => put_10(W15, out),
         _ => id as usize,
+    }
+}
+
+pub fn front0(id: u32, s: &[u8]) -> usize
+    requires { ⌜ (0 ≤ id) × (id < 16) ⌝ }
+    ensures { λ r. ⌜ r ≡ passed (textIn names id) (now (s .entry)) ⌝ }
+{
+    match id {
+        1 => pass_10(W1, s),
+        2 => pass_08(W2, s),
+        3 => pass_08(W3, s),
+        4 => pass_08(W4, s),
+        5 => pass_10(W5, s),
+        6 => pass_08(W6, s),
+        7 => pass_08(W7, s),
+        8 => pass_12(W8, s),
+        9 => pass_12(W9, s),
+        10 => pass_10(W10, s),
+        11 => pass_08(W11, s),
+        12 => pass_10(W12, s),
+        13 => pass_10(W13, s),
+        14 => pass_08(W14, s),
+        15 => pass_10(W15, s),
+        _ => 1,
     }
 }
 
@@ -473,6 +596,31 @@ pub fn part1(id: u32, out: &mut [u8]) -> usize
     }
 }
 
+pub fn front1(id: u32, s: &[u8]) -> usize
+    requires { ⌜ (16 ≤ id) × (id < 32) ⌝ }
+    ensures { λ r. ⌜ r ≡ passed (textIn names id) (now (s .entry)) ⌝ }
+{
+    match id {
+        16 => pass_08(W16, s),
+        17 => pass_06(W17, s),
+        18 => pass_08(W18, s),
+        19 => pass_08(W19, s),
+        20 => pass_10(W20, s),
+        21 => pass_06(W21, s),
+        22 => pass_06(W22, s),
+        23 => pass_10(W23, s),
+        24 => pass_10(W24, s),
+        25 => pass_12(W25, s),
+        26 => pass_12(W26, s),
+        27 => pass_16(W27, s),
+        28 => pass_16(W28, s),
+        29 => pass_14(W29, s),
+        30 => pass_10(W30, s),
+        31 => pass_10(W31, s),
+        _ => 1,
+    }
+}
+
 pub fn part2(id: u32, out: &mut [u8]) -> usize
     requires { ⌜ (32 ≤ id) × ((id < 48) × (length (textIn names id) ≤ length (now out))) ⌝ }
     ensures { λ r. ⌜ (r ≡ length (textIn names id)) × (now (out .exit) ≡ over (now (out .entry)) (textIn names id)) ⌝ }
@@ -495,6 +643,31 @@ pub fn part2(id: u32, out: &mut [u8]) -> usize
         46 => put_10(W46, out),
         47 => put_18(W47, out),
         _ => id as usize,
+    }
+}
+
+pub fn front2(id: u32, s: &[u8]) -> usize
+    requires { ⌜ (32 ≤ id) × (id < 48) ⌝ }
+    ensures { λ r. ⌜ r ≡ passed (textIn names id) (now (s .entry)) ⌝ }
+{
+    match id {
+        32 => pass_14(W32, s),
+        33 => pass_10(W33, s),
+        34 => pass_10(W34, s),
+        35 => pass_10(W35, s),
+        36 => pass_14(W36, s),
+        37 => pass_06(W37, s),
+        38 => pass_08(W38, s),
+        39 => pass_12(W39, s),
+        40 => pass_10(W40, s),
+        41 => pass_12(W41, s),
+        42 => pass_12(W42, s),
+        43 => pass_14(W43, s),
+        44 => pass_14(W44, s),
+        45 => pass_18(W45, s),
+        46 => pass_10(W46, s),
+        47 => pass_18(W47, s),
+        _ => 1,
     }
 }
 
@@ -523,6 +696,31 @@ pub fn part3(id: u32, out: &mut [u8]) -> usize
     }
 }
 
+pub fn front3(id: u32, s: &[u8]) -> usize
+    requires { ⌜ (48 ≤ id) × (id < 64) ⌝ }
+    ensures { λ r. ⌜ r ≡ passed (textIn names id) (now (s .entry)) ⌝ }
+{
+    match id {
+        48 => pass_18(W48, s),
+        49 => pass_18(W49, s),
+        50 => pass_22(W50, s),
+        51 => pass_20(W51, s),
+        52 => pass_20(W52, s),
+        53 => pass_18(W53, s),
+        54 => pass_22(W54, s),
+        55 => pass_24(W55, s),
+        56 => pass_02(W56, s),
+        57 => pass_02(W57, s),
+        58 => pass_06(W58, s),
+        59 => pass_16(W59, s),
+        60 => pass_16(W60, s),
+        61 => pass_20(W61, s),
+        62 => pass_16(W62, s),
+        63 => pass_16(W63, s),
+        _ => 1,
+    }
+}
+
 pub fn part4(id: u32, out: &mut [u8]) -> usize
     requires { ⌜ (64 ≤ id) × ((id < 80) × (length (textIn names id) ≤ length (now out))) ⌝ }
     ensures { λ r. ⌜ (r ≡ length (textIn names id)) × (now (out .exit) ≡ over (now (out .entry)) (textIn names id)) ⌝ }
@@ -545,6 +743,31 @@ pub fn part4(id: u32, out: &mut [u8]) -> usize
         78 => put_26(W78, out),
         79 => put_20(W79, out),
         _ => id as usize,
+    }
+}
+
+pub fn front4(id: u32, s: &[u8]) -> usize
+    requires { ⌜ (64 ≤ id) × (id < 80) ⌝ }
+    ensures { λ r. ⌜ r ≡ passed (textIn names id) (now (s .entry)) ⌝ }
+{
+    match id {
+        64 => pass_20(W64, s),
+        65 => pass_10(W65, s),
+        66 => pass_12(W66, s),
+        67 => pass_18(W67, s),
+        68 => pass_20(W68, s),
+        69 => pass_24(W69, s),
+        70 => pass_18(W70, s),
+        71 => pass_20(W71, s),
+        72 => pass_24(W72, s),
+        73 => pass_16(W73, s),
+        74 => pass_18(W74, s),
+        75 => pass_22(W75, s),
+        76 => pass_20(W76, s),
+        77 => pass_22(W77, s),
+        78 => pass_26(W78, s),
+        79 => pass_20(W79, s),
+        _ => 1,
     }
 }
 
@@ -573,6 +796,31 @@ pub fn part5(id: u32, out: &mut [u8]) -> usize
     }
 }
 
+pub fn front5(id: u32, s: &[u8]) -> usize
+    requires { ⌜ (80 ≤ id) × (id < 96) ⌝ }
+    ensures { λ r. ⌜ r ≡ passed (textIn names id) (now (s .entry)) ⌝ }
+{
+    match id {
+        80 => pass_20(W80, s),
+        81 => pass_06(W81, s),
+        82 => pass_06(W82, s),
+        83 => pass_12(W83, s),
+        84 => pass_14(W84, s),
+        85 => pass_16(W85, s),
+        86 => pass_20(W86, s),
+        87 => pass_16(W87, s),
+        88 => pass_12(W88, s),
+        89 => pass_16(W89, s),
+        90 => pass_18(W90, s),
+        91 => pass_22(W91, s),
+        92 => pass_18(W92, s),
+        93 => pass_18(W93, s),
+        94 => pass_22(W94, s),
+        95 => pass_24(W95, s),
+        _ => 1,
+    }
+}
+
 pub fn part6(id: u32, out: &mut [u8]) -> usize
     requires { ⌜ (96 ≤ id) × ((id < 112) × (length (textIn names id) ≤ length (now out))) ⌝ }
     ensures { λ r. ⌜ (r ≡ length (textIn names id)) × (now (out .exit) ≡ over (now (out .entry)) (textIn names id)) ⌝ }
@@ -595,6 +843,31 @@ pub fn part6(id: u32, out: &mut [u8]) -> usize
         110 => put_16(W110, out),
         111 => put_22(W111, out),
         _ => id as usize,
+    }
+}
+
+pub fn front6(id: u32, s: &[u8]) -> usize
+    requires { ⌜ (96 ≤ id) × (id < 112) ⌝ }
+    ensures { λ r. ⌜ r ≡ passed (textIn names id) (now (s .entry)) ⌝ }
+{
+    match id {
+        96 => pass_24(W96, s),
+        97 => pass_24(W97, s),
+        98 => pass_14(W98, s),
+        99 => pass_16(W99, s),
+        100 => pass_18(W100, s),
+        101 => pass_24(W101, s),
+        102 => pass_18(W102, s),
+        103 => pass_14(W103, s),
+        104 => pass_16(W104, s),
+        105 => pass_18(W105, s),
+        106 => pass_24(W106, s),
+        107 => pass_18(W107, s),
+        108 => pass_12(W108, s),
+        109 => pass_14(W109, s),
+        110 => pass_16(W110, s),
+        111 => pass_22(W111, s),
+        _ => 1,
     }
 }
 
@@ -623,6 +896,31 @@ pub fn part7(id: u32, out: &mut [u8]) -> usize
     }
 }
 
+pub fn front7(id: u32, s: &[u8]) -> usize
+    requires { ⌜ (112 ≤ id) × (id < 128) ⌝ }
+    ensures { λ r. ⌜ r ≡ passed (textIn names id) (now (s .entry)) ⌝ }
+{
+    match id {
+        112 => pass_16(W112, s),
+        113 => pass_16(W113, s),
+        114 => pass_18(W114, s),
+        115 => pass_20(W115, s),
+        116 => pass_22(W116, s),
+        117 => pass_20(W117, s),
+        118 => pass_18(W118, s),
+        119 => pass_20(W119, s),
+        120 => pass_22(W120, s),
+        121 => pass_28(W121, s),
+        122 => pass_22(W122, s),
+        123 => pass_02(W123, s),
+        124 => pass_02(W124, s),
+        125 => pass_02(W125, s),
+        126 => pass_04(W126, s),
+        127 => pass_04(W127, s),
+        _ => 1,
+    }
+}
+
 pub fn part8(id: u32, out: &mut [u8]) -> usize
     requires { ⌜ (128 ≤ id) × ((id < 144) × (length (textIn names id) ≤ length (now out))) ⌝ }
     ensures { λ r. ⌜ (r ≡ length (textIn names id)) × (now (out .exit) ≡ over (now (out .entry)) (textIn names id)) ⌝ }
@@ -648,6 +946,31 @@ pub fn part8(id: u32, out: &mut [u8]) -> usize
     }
 }
 
+pub fn front8(id: u32, s: &[u8]) -> usize
+    requires { ⌜ (128 ≤ id) × (id < 144) ⌝ }
+    ensures { λ r. ⌜ r ≡ passed (textIn names id) (now (s .entry)) ⌝ }
+{
+    match id {
+        128 => pass_06(W128, s),
+        129 => pass_04(W129, s),
+        130 => pass_10(W130, s),
+        131 => pass_14(W131, s),
+        132 => pass_14(W132, s),
+        133 => pass_16(W133, s),
+        134 => pass_22(W134, s),
+        135 => pass_22(W135, s),
+        136 => pass_22(W136, s),
+        137 => pass_20(W137, s),
+        138 => pass_18(W138, s),
+        139 => pass_18(W139, s),
+        140 => pass_18(W140, s),
+        141 => pass_22(W141, s),
+        142 => pass_22(W142, s),
+        143 => pass_24(W143, s),
+        _ => 1,
+    }
+}
+
 pub fn part9(id: u32, out: &mut [u8]) -> usize
     requires { ⌜ (144 ≤ id) × ((id < 160) × (length (textIn names id) ≤ length (now out))) ⌝ }
     ensures { λ r. ⌜ (r ≡ length (textIn names id)) × (now (out .exit) ≡ over (now (out .entry)) (textIn names id)) ⌝ }
@@ -663,5 +986,23 @@ pub fn part9(id: u32, out: &mut [u8]) -> usize
         151 => put_04(W151, out),
         152 => put_04(W152, out),
         _ => 0,
+    }
+}
+
+pub fn front9(id: u32, s: &[u8]) -> usize
+    requires { ⌜ (144 ≤ id) × (id < 160) ⌝ }
+    ensures { λ r. ⌜ r ≡ passed (textIn names id) (now (s .entry)) ⌝ }
+{
+    match id {
+        144 => pass_34(W144, s),
+        145 => pass_26(W145, s),
+        146 => pass_22(W146, s),
+        147 => pass_26(W147, s),
+        148 => pass_34(W148, s),
+        149 => pass_32(W149, s),
+        150 => pass_24(W150, s),
+        151 => pass_04(W151, s),
+        152 => pass_04(W152, s),
+        _ => 1,
     }
 }

@@ -11,8 +11,8 @@ use lib.Seq.{drop-append-seam}
 use borrow.Author.Tests.{eq-eqb, ne-eqb}
 use Rattle.base.specs.Decides.{Decides}
 use Rattle.words.specs.Text.{text}
-use Rattle.words.specs.Front.{begins, passed}
-use Rattle.words.proofs.Fronts.{begins-is, begins-own, passed-true, passed-false}
+use Rattle.base.specs.Front.{begins, passed}
+use Rattle.base.proofs.Fronts.{begins-is, begins-own, passed-true, passed-false}
 use Rattle.phrase.specs.Phrase.{Piece, gap, following, phrase}
 use Rattle.phrase.specs.Plan.{pieceOf, pieces}
 use Rattle.phrase.specs.Stands.{isNil, stands}

@@ -4,7 +4,7 @@ use Prim.Native.Nat.{ℕ}
 use mathlib.Core.Bool.{Bool, true, false, cond}
 use mathlib.Core.List.{List, [], _∷_, _++_}
 use lib.ListN.{length, drop}
-use Rattle.words.specs.Front.{begins}
+use Rattle.base.specs.Front.{begins}
 use Rattle.phrase.specs.Phrase.{Piece, gap}
 
 abbrev pub isNil : List ℕ → Bool

@@ -9,9 +9,9 @@ ghost use Rattle.base.specs.Buffer.{over};
 ghost use Rattle.base.specs.Answer.{fitted, Answers};
 ghost use Rattle.base.specs.Decides.{Decides};
 ghost use Rattle.words.specs.Text.{text};
-ghost use Rattle.words.specs.Front.{passed};
+ghost use Rattle.base.specs.Front.{passed};
 ghost use Rattle.phrase.specs.Phrase.{following, phrase as phraseOf};
-ghost use Rattle.phrase.specs.Plan.{pieceOf, pieces, Added};
+ghost use Rattle.phrase.specs.Plan.{pieceOf, pieces, says, Added};
 ghost use Rattle.phrase.specs.Stands.{stands as standsAs};
 
 // Adds a piece to a plan of which `at` are written.
@@ -100,19 +100,19 @@ pub fn put(plan: &[u32], out: &mut [u8]) -> usize
     k + n
 }
 
-// Answers with the phrase of a plan: measured first, and written where out holds it.
-pub fn speak(plan: &[u32], out: &mut [u8]) -> Answer
-    requires { ⌜ length (now plan) ≤ 1000 ⌝ }
-    ensures { λ r. ⌜ Answers r (now (out .entry)) (now (out .exit)) (fitted (now (out .entry)) (phraseOf (pieces (now (plan .entry))))) ⌝ }
+// Answers with what the first n pieces of a plan say: measured first, and written where out holds it.
+pub fn speak(plan: &[u32], n: usize, out: &mut [u8]) -> Answer
+    requires { ⌜ (n ≤ length (now plan)) × (n ≤ 1000) ⌝ }
+    ensures { λ r. ⌜ Answers r (now (out .entry)) (now (out .exit)) (fitted (now (out .entry)) (phraseOf (says (now (plan .entry)) n))) ⌝ }
 {
-    let size = len(plan);
+    let size = len(&plan[..n]);
     if out.len() < size {
         return Answer {
             number: 7,
             length: size,
         };
     }
-    put(plan, out);
+    put(&plan[..n], out);
     Answer {
         number: 0,
         length: size,

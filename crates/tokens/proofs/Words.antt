@@ -6,7 +6,6 @@ use mathlib.Core.Bool.{Bool, true, false, cond, _&&_, _||_, not}
 use mathlib.Core.List.{List, [], _∷_, _++_, append-nil}
 use native.Mathlib.Omega.{arith}
 use native.Mathlib.Numerals.{add-one}
-use borrow.Author.Tests.{eq-eqb, ne-eqb}
 use lib.Dec.{eqb}
 use lib.ListN.{length, getD, drop, drop-of-length-le}
 use lib.Seq.{drop-cons}
@@ -47,15 +46,6 @@ module _ (s : List ℕ) (i : ℕ) (h : i < length s) where
       → (key (firstWord s) ≡ keyFrom ((k * 371 + getD s i 0) % 65536) (firstWord (drop (i + 1) s))) × (afterWord s ≡ afterWord (drop (i + 1) s))
   unfolding keyFrom firstWord afterWord
   word-goes-on k e f g = (e ∙ rw (at, g, add-one i) refl, f ∙ rw (at, g, add-one i) refl)
-
-pub space-gap : (b : ℕ) → b ≡ 32 → isGap b ≡ true
-space-gap b e = rw (eq-eqb b 32 e) refl
-
-pub hyphen-gap : (b : ℕ) → (b ≡ 32 → ⊥) → b ≡ 45 → isGap b ≡ true
-hyphen-gap b n e = rw (ne-eqb b 32 n, eq-eqb b 45 e) refl
-
-pub no-gap : (b : ℕ) → (b ≡ 32 → ⊥) → (b ≡ 45 → ⊥) → isGap b ≡ false
-no-gap b n m = rw (ne-eqb b 32 n, ne-eqb b 45 m) refl
 
 pub text-ends : (s : List ℕ) (i k : ℕ) → length s ≤ i → key (firstWord s) ≡ keyFrom k (firstWord (drop i s)) → afterWord s ≡ afterWord (drop i s)
     → (k ≡ key (firstWord s)) × (drop i s ≡ afterWord s)

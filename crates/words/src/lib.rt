@@ -4,7 +4,7 @@ ghost use Prim.Native.Nat.{_≤_, _<_};
 ghost use lib.ListN.{length};
 ghost use Rattle.base.specs.Buffer.{over};
 ghost use Rattle.words.specs.Text.{text};
-ghost use Rattle.words.specs.Front.{begins, passed};
+ghost use Rattle.base.specs.Front.{passed};
 
 // The length of the text with this number.
 pub fn len(id: u32) -> usize
@@ -39,28 +39,18 @@ pub fn put(id: u32, out: &mut [u8]) -> usize
     bank_ordinal::put(id - 768, out)
 }
 
-// Whether s begins with w.
-fn front(w: &[u8], s: &[u8]) -> bool
-    ensures { λ r. ⌜ r ≡ begins (now (w .entry)) (now (s .entry)) ⌝ }
-{
-    if s.len() < w.len() {
-        return false;
-    }
-    let mut i: usize = 0;
-    while i < w.len() {
-        if s[i] != w[i] {
-            return false;
-        }
-        i = i + 1;
-    }
-    true
-}
-
 // One more than the length of the text with this number, where s begins with it; else 0.
 pub fn pass(id: u32, s: &[u8]) -> usize
     ensures { λ r. ⌜ r ≡ passed (text id) (now (s .entry)) ⌝ }
 {
-    let mut w = [0u8; 40];
-    let n = put(id, &mut w);
-    if front(&w[..n], s) { n + 1 } else { 0 }
+    if id < 256 {
+        return bank_uk::pass(id, s);
+    }
+    if id < 512 {
+        return bank_fr::pass(id - 256, s);
+    }
+    if id < 768 {
+        return bank_money::pass(id - 512, s);
+    }
+    bank_ordinal::pass(id - 768, s)
 }

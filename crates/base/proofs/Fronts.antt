@@ -10,7 +10,7 @@ use borrow.Author.Tests.{eq-eqb, ne-eqb, eqb-true}
 use lib.Dec.{eqb}
 use lib.ListN.{length, getD, take, drop, drop-of-length-le}
 use lib.Seq.{drop-cons}
-use Rattle.words.specs.Front.{begins, passed}
+use Rattle.base.specs.Front.{begins, passed}
 
 and-false : (b : Bool) → (b && false) ≡ false
 and-false true = refl

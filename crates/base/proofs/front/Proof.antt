@@ -1,14 +1,14 @@
--- `words::front` meets its contract: at the head of the loop the first i bytes agree.
+-- `base::front` meets its contract: at the head of the loop the first i bytes agree.
 -- Assumes nothing.
 use Prim.Native.Nat.{_-_, _≤_}
 use mathlib.Core.Path.{_≡_, refl, sym}
 use native.Mathlib.Omega.{arith}
 use lib.ListN.{length, drop}
 use borrow.Author.Needs.{needs}
-use Rattle.words.specs.Front.{begins}
-use Rattle.words.proofs.Fronts.{too-short, on, off, all-on}
-use Rattle.words.proofs.front.Statement.{statement}
-use Rattle.words.proofs.front.Tie as tie
+use Rattle.base.specs.Front.{begins}
+use Rattle.base.proofs.Fronts.{too-short, on, off, all-on}
+use Rattle.base.proofs.front.Statement.{statement}
+use Rattle.base.proofs.front.Tie as tie
 
 abbrev Inv-loop : tie.InvT-loop
 Inv-loop w s i₀ i = (i ≤ length w) × ((length w ≤ length s) × (begins w s ≡ begins (drop i w) (drop i s)))

@@ -1,0 +1,27 @@
+# Yokepear. Each target works from a fresh checkout; the toolchain's command `rt` must be on the PATH.
+.PHONY: test lib host compare bench clean
+
+# The gate: every proof and every must-fail edit, then the host's tests. The last line is the gate's verdict.
+test:
+	bash tools/test.sh
+
+# The static library and its header, in target/yokepear.
+lib:
+	rt staticlib yokepear
+	mkdir -p target/yokepear
+	cp target/staticlib/libyokepear.a include/yokepear.h target/yokepear/
+
+# The host's tests alone: C calls with guarded buffers.
+host: lib
+	host/test.sh
+
+# Every answer against the published Rust, where its sources are at hand.
+compare: lib
+	compare/run.sh
+
+# Time and instructions per phrase byte, beside the Rust and a plain C speller.
+bench: lib
+	bench/run.sh
+
+clean:
+	rm -rf target
