@@ -6,13 +6,12 @@ use mathlib.Core.List.{List}
 use native.Mathlib.Omega.{arith}
 use borrow.Author.Needs.{needs}
 use lib.ListN.{length, take}
-use lib.Seq.{length-take-le}
 use Rattle.base.specs.Answer.{fitted, Answers}
 use Rattle.figures.specs.Text.{digits, unsigned}
 use Rattle.figures.proofs.Laws.Text.{plain-digits}
 use Rattle.figures.proofs.Laws.Sign.{formed-unsigned}
 use Rattle.phrase.specs.Phrase.{phrase}
-use Rattle.phrase.specs.Plan.{pieces}
+use Rattle.phrase.specs.Plan.{says}
 use Rattle.calls_uk.specs.Cardinals.{cardinal}
 use Rattle.calls_uk.proofs.Entries.{planned}
 use Rattle.calls_uk.proofs.spell.Statement.{statement}
@@ -23,15 +22,9 @@ groups22-requires c κs =
     let s = c .before .before .before .before .before in
     ap digits (c .after-sign .ensures) ∙ plain-digits (unsigned (s .args .text .now)) (formed-unsigned (s .args .text .now) (s .pre .2))
 
-within : (c : tie.After-plan-cardinal) → c .plan-cardinal .result ≤ length (c .plan-cardinal .last .1 .1 .1 .1 .0)
-within c = omega (arith, c .plan-cardinal .ensures .0, c .plan-cardinal .kept .1 .1 .1 .1 .0)
-
-written : (c : tie.After-plan-cardinal) → let p = c .plan-cardinal in length (take (p .result) (p .last .1 .1 .1 .1 .0)) ≡ p .result
-written c = let p = c .plan-cardinal in length-take-le (p .result) (p .last .1 .1 .1 .1 .0) (within c)
-
 -- what the plan says
 phrase-is : (c : tie.After-plan-cardinal) → let p = c .plan-cardinal in let a = c .before .before .before .before .before .before .before .before .before .args in
-    phrase (pieces (take (p .result) (p .last .1 .1 .1 .1 .0))) ≡ cardinal (a .settings .gender) (a .settings .case) (a .text .now)
+    phrase (says (p .last .1 .1 .1 .1 .0) (p .result)) ≡ cardinal (a .settings .gender) (a .settings .case) (a .text .now)
 phrase-is c =
     let a = c .before .before .before .before .before .before .before .before .before .args in
     let p = c .plan-cardinal in
@@ -42,5 +35,7 @@ pub spell-spec : {M : Type 1} → statement M
 spell-spec =
     tie.close
     (tie.spec (λ c κs. search needs) (λ c κs. search needs) (λ c κs. search needs) groups22-requires (λ c. search needs) (λ c κs. search needs)
-    (λ c. within (c .before)) (λ c. sym (written (c .before .before))) (λ c κs. omega (arith, written (c .before .before .before), c .before .before .before .plan-cardinal .ensures .0)) (λ c. search needs)
-    (λ c. let a = c .before .before .before .before .before .before .before .before .before .before .before .before .before .before .before .args in subst (λ (b : List ℕ). Answers (c .before .before .speak .result) (a .out .now) (c .before .before .speak .last .1 .0) (fitted (a .out .now) b)) (phrase-is (c .before .before .before .before .before .before)) (c .before .before .speak .ensures)))
+    (λ c. search needs)
+    (λ c κs. let p = c .before .before .before .plan-cardinal in (omega (arith, p .ensures .0, p .kept .1 .1 .1 .1 .0), omega (arith, p .ensures .0)))
+    (λ c. search needs)
+    (λ c. let a = c .before .before .before .before .before .before .before .before .before .before .before .before .before .before .before .args in subst (λ (b : List ℕ). Answers (c .before .before .speak .result) (a .out .now) (c .before .before .speak .last .1 .1 .0) (fitted (a .out .now) b)) (phrase-is (c .before .before .before .before .before .before)) (c .before .before .speak .ensures)))

@@ -10,18 +10,20 @@ use Rattle.calls_uk.proofs.to_cardinal.Tie as tie
 
 spell-requires : tie.Need-spell-requires
 spell-requires c κs =
-    let a = c .before .before .before .before .before .args in
-    let z : refusedCardinal (a .gender) (a .number) (a .case) (a .text .now) ≡ 0 = sym (c .before .before .refuse .ensures) ∙ c .before .if1 .taken in
-    to-admitted (a .gender) (a .number) (a .case) (a .text .now) z
+    let a = c .before .before .before .before .before .before .args in
+    let e = c .before .settings-of .ensures in
+    let z : refusedCardinal (a .gender) (a .number) (a .case) (a .text .now) ≡ 0 = sym (c .before .before .before .refuse .ensures) ∙ c .before .before .if1 .taken in
+    rw (e .0, e .2) (to-admitted (a .gender) (a .number) (a .case) (a .text .now) z)
 
 returns : tie.Need-returns
 returns c =
-    let a = c .before .before .before .before .before .before .before .before .args in
-    let z : refusedCardinal (a .gender) (a .number) (a .case) (a .text .now) ≡ 0 = sym (c .before .before .before .before .before .refuse .ensures) ∙ c .before .before .before .before .if1 .taken in
-    rw z (c .before .before .spell .ensures)
+    let a = c .before .before .before .before .before .before .before .before .before .args in
+    let e = c .before .before .before .before .settings-of .ensures in
+    let z : refusedCardinal (a .gender) (a .number) (a .case) (a .text .now) ≡ 0 = sym (c .before .before .before .before .before .before .refuse .ensures) ∙ c .before .before .before .before .before .if1 .taken in
+    rw z (rw (e .0, e .2) at (c .before .before .spell .ensures))
 
 pub to-cardinal-spec : {M : Type 1} → statement M
 to-cardinal-spec =
     tie.close
-    (tie.spec (λ c κs. search needs) spell-requires (λ c. search needs) returns
+    (tie.spec (λ c κs. search needs) (λ c κs. search needs) spell-requires (λ c. search needs) returns
     (λ c. refusal-some (c .before .before .before .before .args .out .now) _ _ _ (c .before .refuse .ensures) (c .if1 .left)))
