@@ -12,7 +12,8 @@ use Rattle.base.specs.Claim.{Readable}
 use Rattle.tables.proofs.Tests.{same, same-is}
 use Rattle.figures.specs.Text.{value, negative, unsigned, wellFormed, signedText}
 use Rattle.figures.specs.Groups.{groupsOf}
-use Rattle.figures.proofs.Laws.Text.{thousand, plain-digits}
+use Rattle.figures.proofs.Laws.Digits.{thousand}
+use Rattle.figures.proofs.Laws.Plain.{plain-digits}
 use Rattle.figures.proofs.Laws.Groups.{hold, total-groups}
 use Rattle.figures.proofs.Laws.Sign.{formed-unsigned, zero-plain, Signed, signed-text}
 use Rattle.figures.proofs.Laws.Round.{text-round}

@@ -11,17 +11,6 @@ ghost use Rattle.base.specs.Answer.{fitted, replied, Answers, Reads as ReadsAs,
 ghost use Rattle.figures.specs.Text.{wellFormed, unsigned};
 ghost use Rattle.calls_uk.specs.Cardinals.{refusedCardinal, refusedSetting, cardinal, Means};
 
-// The settings with these numbers.
-fn settings_of(gender: u32, number: u32, case: u32) -> Settings
-    ensures { λ r. ⌜ (r .gender ≡ gender) × (r .number ≡ number) × (r .case ≡ case) ⌝ }
-{
-    Settings {
-        gender: gender as usize,
-        number: number as usize,
-        case: case as usize,
-    }
-}
-
 // The refusals of a spelling call but 7, or 0.
 fn refuse(gender: u32, number: u32, case: u32, text: &[u8]) -> u32
     ensures { λ r. ⌜ r ≡ refusedCardinal gender number case (now (text .entry)) ⌝ }
@@ -69,7 +58,7 @@ pub fn to_cardinal(gender: u32, number: u32, case: u32, text: &[u8], out: &mut [
 {
     let n = refuse(gender, number, case, text);
     if n == 0 {
-        let settings = settings_of(gender, number, case);
+        let settings = uk::settings_of(gender, number, case);
         spell(settings, text, out)
     } else {
         Answer {
@@ -84,7 +73,7 @@ pub fn from_cardinal(gender: u32, number: u32, case: u32, said: &[u8], out: &mut
     ensures { λ r. ⌜ ReadsUnless (refusedSetting gender number case) (Means gender case) (now (said .entry)) r (now (out .entry)) (now (out .exit)) ⌝ }
 {
     if uk::in_range(gender, number, case) {
-        let settings = settings_of(gender, number, case);
+        let settings = uk::settings_of(gender, number, case);
         read(settings, said, out)
     } else {
         Answer {

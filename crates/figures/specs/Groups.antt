@@ -4,7 +4,7 @@ use Prim.Native.Nat.{ℕ, zero, suc, _+_, _*_, _/_, _%_, _<_}
 use mathlib.Core.List.{List, [], _∷_}
 
 -- the k lowest groups of n
-abbrev pub groupsOf : ℕ → ℕ → List ℕ
+unfoldable pub groupsOf : ℕ → ℕ → List ℕ
 groupsOf zero n = []
 groupsOf (suc k) n = n % 1000 ∷ groupsOf k (n / 1000)
 

@@ -22,18 +22,18 @@ numberOf Large = 5
 abbrev pub judged : Bool → Bool → Bool → Judged
 judged malformed refused above = cond malformed Malformed (cond refused Negative (cond above Large Fine))
 
--- a cardinal or an ordinal of at most `most` digits; "Ordinals and money: not negative"
+-- a cardinal or an ordinal, of "at most 66 digits" in Ukrainian and 102 in French; "Ordinals and money: not negative"
 abbrev pub judgeDigits : Bool → ℕ → List ℕ → Judged
 judgeDigits signed most xs = judged (not (wellFormed xs)) (negative xs && not signed) (ltb most (length (unsigned xs)))
 
--- a digit ordinal
+-- a digit ordinal: "at most 340,282,366,920,938,463,463,374,607,431,768,211,455"
 abbrev pub judgeDigitOrdinal : List ℕ → Judged
 judgeDigitOrdinal xs = judged (not (wellFormed xs)) (negative xs) (ltb 340282366920938463463374607431768211455 (value (unsigned xs)))
 
--- an amount of money, limited by its whole part
+-- an amount: "whole part at most 18,446,744,073,709,551,615"
 abbrev pub judgeMoney : List ℕ → Judged
 judgeMoney xs = judged (not (moneyFormed xs)) (negative xs) (ltb 18446744073709551615 (value (unsigned (wholeText xs))))
 
--- a year as text
+-- a year as text ("The program phrases": "A malformed year is refused 3, one beyond 64 signed bits 5")
 abbrev pub judgeYear : List ℕ → Judged
 judgeYear xs = judged (not (wellFormed xs)) false (ltb (yearLimit (negative xs)) (value (unsigned xs)))

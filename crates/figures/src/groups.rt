@@ -2,12 +2,12 @@
 ghost use mathlib.Core.Path.{_≡_};
 ghost use mathlib.Core.Bool.{true};
 ghost use mathlib.Core.List.{[], _∷_};
-ghost use Prim.Native.Nat.{_≤_, _<_};
-ghost use lib.ListN.{length, take};
+ghost use Prim.Native.Nat.{_≤_};
+ghost use lib.ListN.{length, take, replicate};
 ghost use Rattle.figures.specs.Text.{digits, value};
 ghost use Rattle.figures.specs.Groups.{groupsOf};
 
-// What three digits mean.
+// What three digits mean; their bytes of '0' add up to 5328.
 fn three(a: u8, b: u8, c: u8) -> u16
     requires { ⌜ digits (a ∷ b ∷ c ∷ []) ≡ true ⌝ }
     ensures { λ r. ⌜ r ≡ value (a ∷ b ∷ c ∷ []) ⌝ }
@@ -15,10 +15,10 @@ fn three(a: u8, b: u8, c: u8) -> u16
     a as u16 * 100 + b as u16 * 10 + c as u16 - 5328
 }
 
-// What the first e digits mean, fewer than three.
+// What the first e digits mean, three at most.
 fn front(s: &[u8], e: usize) -> u16
     requires { ⌜ digits (now s) ≡ true ⌝ }
-    requires { ⌜ (e < 3) × (e ≤ length (now s)) ⌝ }
+    requires { ⌜ (e ≤ 3) × (e ≤ length (now s)) ⌝ }
     ensures { λ r. ⌜ r ≡ value (take e (now (s .entry))) ⌝ }
 {
     if e == 0 {
@@ -27,18 +27,21 @@ fn front(s: &[u8], e: usize) -> u16
     if e == 1 {
         return three(48, 48, s[0]);
     }
-    three(48, s[0], s[1])
+    if e == 2 {
+        return three(48, s[0], s[1]);
+    }
+    three(s[0], s[1], s[2])
 }
 
 // Stores the groups of digits over zeros, as many as out holds: three digits at a time, from the last on.
 fn fill(s: &[u8], out: &mut [u16])
     requires { ⌜ digits (now s) ≡ true ⌝ }
-    requires { ⌜ now out ≡ groupsOf (length (now out)) 0 ⌝ }
+    requires { ⌜ now out ≡ replicate (length (now out)) 0 ⌝ }
     ensures { λ _. ⌜ now (out .exit) ≡ groupsOf (length (now (out .entry))) (value (now (s .entry))) ⌝ }
 {
     let mut o = 0;
     let mut e = s.len();
-    while 3 <= e {
+    while 3 < e {
         if out.len() <= o {
             return;
         }

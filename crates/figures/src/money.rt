@@ -17,7 +17,7 @@ ghost use Rattle.figures.specs.Groups.{total, Groups};
 ghost use Rattle.figures.specs.Money.{pointed, wholeText, hundredthsText, hundredths, moneyFormed, moneyText};
 
 // Whether a '.' stands before the last two bytes.
-pub fn is_pointed(s: &[u8]) -> bool
+fn is_pointed(s: &[u8]) -> bool
     ensures { λ r. ⌜ r ≡ pointed (now (s .entry)) ⌝ }
 {
     if 3 <= s.len() {
@@ -80,11 +80,11 @@ pub fn is_money_formed(s: &[u8]) -> bool
     }
 }
 
-// How many bytes the money text of the number with the groups g and h hundredths has.
+// The length of the money text of the number with the groups g and h hundredths.
 pub fn money_size(g: &[u16], h: u32) -> usize
     requires { ⌜ Groups (now g) ⌝ }
     requires { ⌜ (0 < length (now g)) × (length (now g) ≤ 34) ⌝ }
-    ensures { λ r. ⌜ (r ≡ length (moneyText (total (now (g .entry))) h)) × (r ≤ 105) ⌝ }
+    ensures { λ r. ⌜ r ≡ length (moneyText (total (now (g .entry))) h) ⌝ }
 {
     if h == 0 {
         text_size(g)
@@ -103,7 +103,7 @@ fn put_hundredths(h: u32, out: &mut [u8])
     out[2] = (48 + h % 10) as u8;
 }
 
-// Writes it; it is w bytes long.
+// Writes that text, which is w bytes long.
 pub fn put_money(g: &[u16], h: u32, out: &mut [u8], w: usize)
     requires { ⌜ Groups (now g) ⌝ }
     requires { ⌜ (0 < length (now g)) × (length (now g) ≤ 34) ⌝ }
@@ -120,7 +120,7 @@ pub fn put_money(g: &[u16], h: u32, out: &mut [u8], w: usize)
     }
 }
 
-// Writes it where the buffer holds it, and answers its length; 7 where the buffer does not.
+// Writes that text and answers its length, or answers 7 with the length where the buffer is shorter.
 pub fn put_money_text(g: &[u16], h: u32, out: &mut [u8]) -> Answer
     requires { ⌜ Groups (now g) ⌝ }
     requires { ⌜ (0 < length (now g)) × (length (now g) ≤ 34) ⌝ }

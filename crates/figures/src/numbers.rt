@@ -39,7 +39,7 @@ fn group_size(x: u16) -> usize
     3
 }
 
-// How many digits the number with the groups g has.
+// The length of the number text of the number with the groups g.
 pub fn text_size(g: &[u16]) -> usize
     requires { ⌜ Groups (now g) ⌝ }
     requires { ⌜ (0 < length (now g)) × (length (now g) ≤ 34) ⌝ }
@@ -83,7 +83,7 @@ fn put_groups(g: &[u16], o: usize, out: &mut [u8])
     }
 }
 
-// Writes the number text of the number with the groups g, which is w bytes long.
+// Writes that text, which is w bytes long: the highest group without leading zeros, and the groups below it.
 pub fn put_text(g: &[u16], out: &mut [u8], w: usize)
     requires { ⌜ Groups (now g) ⌝ }
     requires { ⌜ (0 < length (now g)) × (length (now g) ≤ 34) ⌝ }
@@ -97,7 +97,7 @@ pub fn put_text(g: &[u16], out: &mut [u8], w: usize)
     put_groups(g, o, &mut out[i..]);
 }
 
-// How many bytes the number text of that number, or of its opposite, has.
+// The length of the number text of that number, or of its opposite.
 pub fn number_size(minus: bool, g: &[u16]) -> usize
     requires { ⌜ Groups (now g) ⌝ }
     requires { ⌜ (0 < length (now g)) × (length (now g) ≤ 34) ⌝ }
@@ -110,7 +110,7 @@ pub fn number_size(minus: bool, g: &[u16]) -> usize
     }
 }
 
-// Writes it; it is w bytes long.
+// Writes that text, which is w bytes long.
 pub fn put_signed(minus: bool, g: &[u16], out: &mut [u8], w: usize)
     requires { ⌜ Groups (now g) ⌝ }
     requires { ⌜ (0 < length (now g)) × (length (now g) ≤ 34) ⌝ }
@@ -126,7 +126,7 @@ pub fn put_signed(minus: bool, g: &[u16], out: &mut [u8], w: usize)
     }
 }
 
-// Writes it where the buffer holds it, and answers its length; 7 where the buffer does not.
+// Writes that text and answers its length, or answers 7 with the length where the buffer is shorter.
 pub fn put_number(minus: bool, g: &[u16], out: &mut [u8]) -> Answer
     requires { ⌜ Groups (now g) ⌝ }
     requires { ⌜ (0 < length (now g)) × (length (now g) ≤ 34) ⌝ }

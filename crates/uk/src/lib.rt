@@ -23,6 +23,17 @@ pub fn in_range(gender: u32, number: u32, case: u32) -> bool
     }
 }
 
+// The settings with these numbers.
+pub fn settings_of(gender: u32, number: u32, case: u32) -> Settings
+    ensures { λ r. ⌜ (r .gender ≡ gender) × (r .number ≡ number) × (r .case ≡ case) ⌝ }
+{
+    Settings {
+        gender: gender as usize,
+        number: number as usize,
+        case: case as usize,
+    }
+}
+
 // The words by case and place: units of each gender, teens, tens, hundreds, endings of the scale nouns by agreement, zero, minus, the
 // teens' ending, and the stems of the scale nouns.
 const IDS: [[u8; 85]; 6] = [

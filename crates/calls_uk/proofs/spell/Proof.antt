@@ -8,7 +8,7 @@ use borrow.Author.Needs.{needs}
 use lib.ListN.{length, take}
 use Rattle.base.specs.Answer.{fitted, Answers}
 use Rattle.figures.specs.Text.{digits, unsigned}
-use Rattle.figures.proofs.Laws.Text.{plain-digits}
+use Rattle.figures.proofs.Laws.Plain.{plain-digits}
 use Rattle.figures.proofs.Laws.Sign.{formed-unsigned}
 use Rattle.phrase.specs.Phrase.{phrase}
 use Rattle.phrase.specs.Plan.{says}

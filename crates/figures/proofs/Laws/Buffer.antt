@@ -18,7 +18,7 @@ use Rattle.base.specs.declared.Answer.{Answer}
 pub tail-of : (s : List ℕ) (k : ℕ) → take (length s - k) (drop k s) ≡ drop k s
 tail-of s k = take-all (length s - k) (drop k s) (simp length-drop (omega arith))
 
--- xs with the first i bytes of t written over its own: what a loop that writes t has done after i bytes
+-- xs with the first i elements of t in the place of its own: what a loop that stores t has done after i turns
 abbrev pub sofar : List ℕ → List ℕ → ℕ → List ℕ
 sofar xs t i = take i t ++ drop i xs
 

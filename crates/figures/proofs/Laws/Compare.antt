@@ -14,7 +14,7 @@ use lib.Seq.{drop-cons}
 use borrow.Author.Tests.{leb-true, leb-false, le-leb, lt-leb, lt-ltb, le-ltb}
 use Rattle.figures.specs.Text.{digits, plain, value}
 use Rattle.figures.proofs.Laws.Digits.{value-lt, digits-at, digits-drop, digit-low}
-use Rattle.figures.proofs.Laws.Text.{plain-digits, plain-least}
+use Rattle.figures.proofs.Laws.Plain.{plain-digits, plain-least}
 
 -- what is not at most b is above b
 pub not-leb : (a b : ℕ) → not (leb a b) ≡ ltb b a

@@ -1,7 +1,7 @@
 -- Digits and what they mean.
 -- Assumes nothing.
 use Prim.Native.Nat.{ℕ, zero, suc, _+_, _-_, _*_, _/_, _%_, _^_, _≤_, _<_}
-use native.Mathlib.Nat.{one-le-pow, pow-succ', mul-assoc, mul-le-mul-left, add-mul, add-assoc}
+use native.Mathlib.Nat.{one-le-pow, pow-suc, pow-succ', mul-assoc, mul-le-mul-left, add-mul, add-assoc}
 use native.Mathlib.Numerals.{add-one}
 use native.Mathlib.Omega.{arith}
 use mathlib.Core.Bool.{Bool, true, false, _&&_, and-eq-true-iff}
@@ -19,8 +19,15 @@ use Rattle.figures.specs.Text.{digit, digits, value}
 pub and-both : {a b : Bool} → a ≡ true → b ≡ true → (a && b) ≡ true
 and-both {a} {b} p q = rw (p, q)
 
+-- powers of ten
 pub ten-pos : (k : ℕ) → zero < 10 ^ k
 ten-pos k = one-le-pow k 10 (omega arith)
+
+pub thousand : (o : ℕ) → 10 ^ (o * 3) ≡ 1000 ^ o
+thousand zero = refl
+thousand (suc o) =
+    let e : suc o * 3 ≡ o * 3 + 3 = omega arith in
+    rw (e, pow-add 10 (o * 3) 3, thousand o) (sym (pow-suc 1000 o))
 
 -- a digit is a byte from 48 to 57
 pub digit-low : (b : ℕ) → digit b ≡ true → 48 ≤ b

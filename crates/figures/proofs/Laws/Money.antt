@@ -1,6 +1,6 @@
 -- Money texts.
 -- Assumes nothing.
-use Prim.Native.Nat.{ℕ, zero, _+_, _-_, _*_, _^_, _≤_}
+use Prim.Native.Nat.{ℕ, _+_, _-_, _*_, _^_, _≤_}
 use native.Mathlib.Omega.{arith}
 use mathlib.Core.Bool.{Bool, true, false, cond, not, _&&_, and-eq-true-iff}
 use mathlib.Core.List.{List, [], _∷_, _++_, append-nil}
@@ -10,7 +10,7 @@ use lib.ListN.{length, getD, take, drop, length-append, length-drop}
 use borrow.Author.Tests.{leb-true, eqb-true, eqb-false, eq-eqb, ne-eqb}
 use Rattle.figures.specs.Money.{pointed, wholeText, hundredthsText, hundredths, moneyFormed, moneyText}
 use Rattle.figures.specs.Text.{digits, plain, wellFormed, unsigned, fixed, text}
-use Rattle.figures.proofs.Laws.Digits.{digit-low, digits-head, digits-tail}
+use Rattle.figures.proofs.Laws.Digits.{digits-at, digit-low, digits-head, digits-tail}
 use Rattle.figures.proofs.Laws.Sign.{formed-unsigned}
 
 -- the parts of a text with a '.'
@@ -21,6 +21,17 @@ pub hundredths-size : (s : List ℕ) → pointed s ≡ true → length (hundredt
 hundredths-size s e =
     let h : 3 ≤ length s = pointed-size s e in
     rw e (length-drop (length s - 2) s ∙ omega arith)
+
+-- digits have no '.'
+pub digits-whole : (s : List ℕ) → digits s ≡ true → pointed s ≡ false
+digits-whole s d = go (leb 3 (length s)) refl
+  where
+    go : (t : Bool) → leb 3 (length s) ≡ t → (t && eqb (getD s (length s - 3) 0) 46) ≡ false
+    go false e = refl
+    go true e =
+        let l : 3 ≤ length s = leb-true 3 (length s) e in
+        let b : 48 ≤ getD s (length s - 3) 0 = digit-low (getD s (length s - 3) 0) (digits-at s (length s - 3) d (omega arith)) in
+        ne-eqb (getD s (length s - 3) 0) 46 (λ q. omega arith)
 
 -- two digits that are not both zero, by the first
 eqb-same : (a b x y : ℕ) → (a ≡ b → x ≡ y) → (x ≡ y → a ≡ b) → eqb a b ≡ eqb x y

@@ -16,11 +16,11 @@ use Rattle.figures.proofs.Laws.Compare.{not-leb}
 
 -- digits counted, where the sign is admitted and where it is not
 module _ (signed : Bool) (most : ℕ) (s : List ℕ) where
-  pub digits-signed : signed ≡ true → judged (not (wellFormed s)) false (not (leb (length (unsigned s)) most)) ≡ judgeDigits signed most s
-  digits-signed e = rw (e, and-false (negative s), not-leb)
+  pub judge-signed : signed ≡ true → judged (not (wellFormed s)) false (not (leb (length (unsigned s)) most)) ≡ judgeDigits signed most s
+  judge-signed e = rw (e, and-false (negative s), not-leb)
 
-  pub digits-unsigned : signed ≡ false → judged (not (wellFormed s)) (negative s) (not (leb (length (unsigned s)) most)) ≡ judgeDigits signed most s
-  digits-unsigned e = rw (e, and-true (negative s), not-leb)
+  pub judge-unsigned : signed ≡ false → judged (not (wellFormed s)) (negative s) (not (leb (length (unsigned s)) most)) ≡ judgeDigits signed most s
+  judge-unsigned e = rw (e, and-true (negative s), not-leb)
 
 -- nothing is refused where 01's number is 0
 pub number-zero : (j : Judged) → numberOf j ≡ 0 → j ≡ Fine

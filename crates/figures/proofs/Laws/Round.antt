@@ -1,22 +1,24 @@
 -- There and back: a text to its groups to the text, groups to their text to the groups, a money text to its parts to the text.
 -- Assumes nothing.
-use Prim.Native.Nat.{ℕ, zero, suc, _-_, _*_, _^_, _≤_, _<_}
-use native.Mathlib.Nat.{lt-of-lt-of-le, pow-le-pow-right}
+use Prim.Native.Nat.{ℕ, zero, suc, _+_, _-_, _*_, _^_, _≤_, _<_}
+use native.Mathlib.Nat.{lt-of-lt-of-le, pow-le-pow-right, mod-eq-of-lt}
 use native.Mathlib.Omega.{arith}
 use mathlib.Core.Bool.{Bool, true, false, not, and-eq-true-iff}
 use mathlib.Core.List.{List, [], _∷_, _++_, append-nil}
 use mathlib.Core.Path.{_≡_, refl, sym, ap, _∙_}
 use lib.Dec.{leb, eqb}
-use lib.ListN.{length, getD, take, drop, length-take}
-use lib.Seq.{split-at}
-use borrow.Author.Tests.{eqb-true, eqb-false, not-true}
+use lib.ListN.{length, getD, take, drop, length-take, length-append}
+use lib.Seq.{split-at, getD-append-seam, take-append-seam, drop-append-add}
+use borrow.Author.Tests.{eqb-true, eqb-false, not-true, le-leb}
 use Rattle.figures.specs.Groups.{groupsOf, total, Groups}
 use Rattle.figures.specs.Money.{pointed, wholeText, hundredthsText, hundredths, moneyFormed, moneyText}
 use Rattle.figures.specs.Text.{digits, plain, value, text, fixed, wellFormed, negative, unsigned, signedText}
+use Rattle.figures.proofs.Laws.Digits.{and-both}
 use Rattle.figures.proofs.Laws.Groups.{total-groups, groups-total, total-lt, hold}
-use Rattle.figures.proofs.Laws.Money.{pointed-size, hundredths-size, money-plain, money-pointed, money-some, whole-plain}
-use Rattle.figures.proofs.Laws.Sign.{unsigned-plain, signed-is, formed-unsigned}
-use Rattle.figures.proofs.Laws.Text.{plain-digits, fixed-value, text-value, value-text}
+use Rattle.figures.proofs.Laws.Money.{digits-whole, money-none, pointed-size, hundredths-size, money-plain, money-pointed, money-some, whole-plain}
+use Rattle.figures.proofs.Laws.Plain.{plain-digits}
+use Rattle.figures.proofs.Laws.Sign.{digits-unsigned, unsigned-plain, signed-is, formed-unsigned}
+use Rattle.figures.proofs.Laws.Text.{value-fixed, fixed-digits, plain-text, fixed-value, text-value, value-text}
 
 -- text to groups to text: k groups, at most 34
 pub text-round : (k : ℕ) (xs : List ℕ) → k ≤ 34 → wellFormed xs ≡ true → length (unsigned xs) ≤ k * 3 →
@@ -79,3 +81,68 @@ money-round xs f n h = go (pointed xs) refl
         let a : text (value (unsigned (wholeText xs))) ≡ w = ap (λ (l : List ℕ). text (value l)) ew ∙ text-value w pw lw in
         let b : fixed 2 (value (hundredthsText xs)) ≡ d = ap (λ (l : List ℕ). fixed 2 (value l)) ed ∙ ap (λ (k : ℕ). fixed k (value d)) (sym l2) ∙ fixed-value d dd in
         money-some (value (unsigned (wholeText xs))) (value (hundredthsText xs)) nz ∙ rw (a, b) (pointed-is xs e)
+
+-- the money text of w and h hundredths is well formed, has no sign, and means w and h
+pub record Amount (w h : ℕ) (xs : List ℕ) : Type 0 where
+  pub formed : moneyFormed xs ≡ true
+  pub sign : negative xs ≡ false
+  pub whole : value (unsigned (wholeText xs)) ≡ w
+  pub hundredths : value (hundredthsText xs) ≡ h
+
+-- of digits alone
+amount-whole : (xs : List ℕ) → plain xs ≡ true → Amount (value xs) 0 xs
+amount-whole xs p =
+    let d : digits xs ≡ true = plain-digits xs p in
+    let n : negative xs ≡ false = digits-unsigned xs d in
+    let u : unsigned xs ≡ xs = unsigned-plain xs n in
+    let e : pointed xs ≡ false = digits-whole xs d in
+    record { formed = rw (e, u, p, n); sign = n; whole = rw (e, u); hundredths = rw e }
+
+-- of digits, '.', and two digits that are not both zero
+module _ (a b : List ℕ) (p : plain a ≡ true) (d : hundredths b ≡ true) (l : length b ≡ 2) where
+  abbrev xs : List ℕ
+  xs = a ++ (46 ∷ b)
+
+  size : length xs ≡ length a + 3
+  size = length-append a (46 ∷ b) ∙ omega arith
+
+  point : pointed xs ≡ true
+  point =
+      let i : length xs - 3 ≡ length a = omega (arith, size) in
+      and-both (le-leb 3 (length xs) (omega (arith, size))) (rw (i, getD-append-seam a 46 b 0))
+
+  front : wholeText xs ≡ a
+  front = let i : length xs - 3 ≡ length a = omega (arith, size) in rw (point, i) (take-append-seam a (46 ∷ b))
+
+  back : hundredthsText xs ≡ b
+  back = let i : length xs - 2 ≡ length a + 1 = omega (arith, size) in rw (point, i) (drop-append-add a (46 ∷ b) 1)
+
+  unsigned-front : negative xs ≡ false
+  unsigned-front = go a p
+    where
+      go : (t : List ℕ) → plain t ≡ true → negative (t ++ (46 ∷ b)) ≡ false
+      go [] q = cc
+      go (x ∷ t) q = digits-unsigned (x ∷ t) (plain-digits (x ∷ t) q)
+
+  amount-both : Amount (value a) (value b) xs
+  amount-both =
+      let n : unsigned (wholeText xs) ≡ a = ap unsigned front ∙ unsigned-plain a (digits-unsigned a (plain-digits a p)) in
+      record {
+        formed = money-pointed xs point (ap plain n ∙ p) ∙ ap hundredths back ∙ d;
+        sign = unsigned-front;
+        whole = ap value n;
+        hundredths = ap value back;
+      }
+
+pub amount-text : (w h : ℕ) → w < 10 ^ 102 → h < 100 → Amount w h (moneyText w h)
+amount-text w h l m = go (eqb h 0) refl
+  where
+    go : (t : Bool) → eqb h 0 ≡ t → Amount w h (moneyText w h)
+    go true e =
+        let z : h ≡ 0 = eqb-true h 0 e in
+        rw (money-none w h z, z) (rw (value-text w l) at (amount-whole (text w) (plain-text w l)))
+    go false e =
+        let n : h ≡ 0 → ⊥ = eqb-false h 0 e in
+        let v : value (fixed 2 h) ≡ h = value-fixed 2 h ∙ mod-eq-of-lt m in
+        let d : hundredths (fixed 2 h) ≡ true = and-both (fixed-digits 2 h) (ap not (ap (λ (k : ℕ). eqb k 0) v ∙ e)) in
+        rw (money-some w h n) (rw (value-text w l, v) at (amount-both (text w) (fixed 2 h) (plain-text w l) d refl))

@@ -10,9 +10,10 @@ use mathlib.Core.Path.{_≡_, refl, sym, ap, _∙_}
 use lib.Dec.{eqb}
 use lib.ListN.{length, getD, drop}
 use borrow.Author.Tests.{eqb-true, eq-eqb, ne-eqb, not-true}
-use Rattle.figures.specs.Text.{plain, value, text, wellFormed, negative, unsigned, signedText}
+use Rattle.figures.specs.Text.{digits, plain, value, text, wellFormed, negative, unsigned, signedText}
 use Rattle.figures.proofs.Laws.Digits.{and-both, digit-low, digits-head}
-use Rattle.figures.proofs.Laws.Text.{plain-digits, plain-first, value-text, plain-text, text-size-le}
+use Rattle.figures.proofs.Laws.Plain.{plain-digits, plain-first}
+use Rattle.figures.proofs.Laws.Text.{value-text, plain-text, text-size-le}
 
 -- the sign by the first byte, and what stands after it
 pub negative-empty : (s : List ℕ) → length s ≡ 0 → negative s ≡ false
@@ -35,8 +36,10 @@ pub size-minus : (s : List ℕ) → negative s ≡ true → length s ≡ length 
 size-minus [] e = cc
 size-minus (b ∷ bs) e = rw e (sym (add-one (length bs)))
 
-pub size-plain : (s : List ℕ) → negative s ≡ false → length s ≡ length (unsigned s)
-size-plain s e = ap length (sym (unsigned-plain s e))
+-- digits have no sign
+pub digits-unsigned : (s : List ℕ) → digits s ≡ true → negative s ≡ false
+digits-unsigned [] d = refl
+digits-unsigned (b ∷ bs) d = let l : 48 ≤ b = digit-low b (digits-head b bs d) in ne-eqb b 45 (λ e. omega arith)
 
 -- the sign and what stands after it make up the text
 pub signed-is : (s : List ℕ) (m : Bool) → negative s ≡ m → cond m (45 ∷ unsigned s) (unsigned s) ≡ s
@@ -49,17 +52,11 @@ signed-is (b ∷ bs) false e = rw e
 pub formed-unsigned : (s : List ℕ) → wellFormed s ≡ true → plain (unsigned s) ≡ true
 formed-unsigned s f = and-eq-true-iff (plain (unsigned s)) (not (negative s && eqb (value (unsigned s)) 0)) .0 f .0
 
-pub formed-bad : (s : List ℕ) → plain (unsigned s) ≡ false → wellFormed s ≡ false
-formed-bad s p = rw p
-
 formed-sign : (s : List ℕ) → plain (unsigned s) ≡ true → negative s ≡ true → wellFormed s ≡ not (eqb (value (unsigned s)) 0)
 formed-sign s p m = rw (p, m)
 
 pub formed-minus : (s : List ℕ) → plain (unsigned s) ≡ true → negative s ≡ true → wellFormed s ≡ not (eqb (getD (unsigned s) 0 0) 48)
 formed-minus s p m = formed-sign s p m ∙ ap not (sym (plain-first (unsigned s) p))
-
-pub formed-plain : (s : List ℕ) → plain (unsigned s) ≡ true → negative s ≡ false → wellFormed s ≡ true
-formed-plain s p m = rw (p, m)
 
 pub formed-some : (s : List ℕ) → wellFormed s ≡ true → 0 < length s
 formed-some [] f = let z : _≡_ {A = ℕ} 0 1 = cc in absurd (omega arith)
@@ -112,8 +109,7 @@ signed-text minus n most l m h p =
       means = v;
       size = l;
     }
-    go false p [] f v l = let z : _≡_ {A = ℕ} 0 1 = cc in absurd (omega arith)
-    go false p (b ∷ bs) f v l =
-        let d : 48 ≤ b = digit-low b (digits-head b bs (plain-digits (b ∷ bs) f)) in
-        let e : eqb b 45 ≡ false = ne-eqb b 45 (λ q. omega arith) in
-        record { formed = rw (e, f); sign = e; means = rw e v; size = rw e l }
+    go false p t f v l =
+        let e : negative t ≡ false = digits-unsigned t (plain-digits t f) in
+        let u : unsigned t ≡ t = unsigned-plain t e in
+        record { formed = rw (u, f, e); sign = e; means = rw u v; size = rw u l }

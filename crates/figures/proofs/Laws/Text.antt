@@ -1,80 +1,20 @@
--- Plain texts and the number text of a number: one is the other.
+-- The number text of a number: its length, and that it is the one plain text with that value.
 -- Assumes nothing.
 use Prim.Native.Nat.{ℕ, zero, suc, _+_, _-_, _*_, _/_, _%_, _^_, _≤_, _<_}
-use native.Mathlib.Nat.{one-le-pow, pow-suc, pow-succ', div-eq-of-lt, mod-eq-of-lt, mod-lt, mod-one, zero-mod, zero-add, suc-add, add-comm, mul-comm, one-mul, div-div-eq-div-mul, div-lt-iff-lt-mul, le-div-iff-mul-le, lt-of-lt-of-le, mul-le-mul, pow-le-pow-right}
+use native.Mathlib.Nat.{one-le-pow, pow-succ', div-eq-of-lt, mod-eq-of-lt, mod-lt, mod-one, zero-mod, zero-add, suc-add, add-comm, mul-comm, one-mul, div-div-eq-div-mul, div-lt-iff-lt-mul, le-div-iff-mul-le, lt-of-lt-of-le, pow-le-pow-right}
 use native.Mathlib.Numerals.{sub-one}
 use native.Mathlib.Omega.{arith}
 use mathlib.Core.Bool.{Bool, true, false, cond}
 use mathlib.Core.List.{List, [], _∷_, _++_}
 use mathlib.Core.Path.{_≡_, refl, sym, ap, _∙_}
 use lib.Arith.{mod-mul}
-use lib.Dec.{leb, ltb, eqb, eqb·suc-suc}
-use lib.ListN.{length, getD}
+use lib.Dec.{leb, ltb, eqb}
+use lib.ListN.{length}
 use lib.Pow.{pow-add}
-use borrow.Author.Tests.{leb-true, leb-false, eqb-true, eqb-false, eq-eqb, ne-eqb, ltb-true, ltb-false}
+use borrow.Author.Tests.{leb-true, leb-false, ltb-true, ltb-false}
 use Rattle.figures.specs.Text.{digits, plain, value, fixed, width, text}
-use Rattle.figures.proofs.Laws.Digits.{and-both, ten-pos, digit-low, digit-is, digits-head, value-lt, value-inj}
-
--- three digits are a group
-pub thousand : (o : ℕ) → 10 ^ (o * 3) ≡ 1000 ^ o
-thousand zero = refl
-thousand (suc o) =
-    let e : suc o * 3 ≡ o * 3 + 3 = omega arith in
-    rw (e, pow-add 10 (o * 3) 3, thousand o) (sym (pow-suc 1000 o))
-
--- a plain text by its first byte
-pub plain-empty : (s : List ℕ) → length s ≡ 0 → plain s ≡ false
-plain-empty [] h = refl
-plain-empty (b ∷ bs) h = absurd (omega arith)
-
-pub plain-zero : (s : List ℕ) → getD s 0 0 ≡ 48 → plain s ≡ eqb (length s) 1
-plain-zero [] e = refl
-plain-zero (b ∷ bs) e = rw (eq-eqb b 48 e) (sym (eqb·suc-suc (length bs) 0))
-
-pub plain-other : (s : List ℕ) → (length s ≡ 0 → ⊥) → (getD s 0 0 ≡ 48 → ⊥) → plain s ≡ digits s
-plain-other [] n e = absurd (n refl)
-plain-other (b ∷ bs) n e = rw (ne-eqb b 48 e)
-
--- the digits of '0' alone
-lone-zero : (b : ℕ) (bs : List ℕ) → eqb b 48 ≡ true → eqb (length bs) 0 ≡ true → digits (b ∷ bs) ≡ true
-lone-zero b [] e l = let z = eqb-true b 48 e in and-both (digit-is b (omega arith) (omega arith)) refl
-lone-zero b (c ∷ r) e l = let z = eqb-true (suc (length r)) 0 l in absurd (omega arith)
-
-pub plain-digits : (xs : List ℕ) → plain xs ≡ true → digits xs ≡ true
-plain-digits [] p = refl
-plain-digits (b ∷ bs) p = go (eqb b 48) refl p
-  where
-    go : (t : Bool) → eqb b 48 ≡ t → cond t (eqb (length bs) 0) (digits (b ∷ bs)) ≡ true → digits (b ∷ bs) ≡ true
-    go true e q = lone-zero b bs e q
-    go false e q = q
-
-pub plain-some : (xs : List ℕ) → plain xs ≡ true → 0 < length xs
-plain-some [] p = let z : _≡_ {A = ℕ} 0 1 = cc in absurd (omega arith)
-plain-some (b ∷ bs) p = omega arith
-
--- a first digit above 0 makes the value as large as its place
-some-value : (b : ℕ) (bs : List ℕ) → digits (b ∷ bs) ≡ true → (b ≡ 48 → ⊥) → 10 ^ length bs ≤ value (b ∷ bs)
-some-value b bs d n =
-    let l : 48 ≤ b = digit-low b (digits-head b bs d) in
-    let z : 1 ≤ b - 48 = omega arith in
-    omega (arith, mul-le-mul {n₁ = 1} {m₁ = 10 ^ length bs} {m₂ = 10 ^ length bs} z (omega arith))
-
-pub plain-least : (b : ℕ) (bs : List ℕ) → plain (b ∷ bs) ≡ true → 1 < suc (length bs) → 10 ^ length bs ≤ value (b ∷ bs)
-plain-least b bs p h = go (eqb b 48) refl p
-  where
-    go : (t : Bool) → eqb b 48 ≡ t → cond t (eqb (length bs) 0) (digits (b ∷ bs)) ≡ true → 10 ^ length bs ≤ value (b ∷ bs)
-    go true e q = let z : length bs ≡ 0 = eqb-true (length bs) 0 q in absurd (omega arith)
-    go false e q = some-value b bs q (eqb-false b 48 e)
-
--- a plain text means 0 where it begins with '0'
-pub plain-first : (xs : List ℕ) → plain xs ≡ true → eqb (getD xs 0 0) 48 ≡ eqb (value xs) 0
-plain-first [] p = cc
-plain-first (b ∷ bs) p = go bs (eqb b 48) refl p
-  where
-    go : (r : List ℕ) (t : Bool) → eqb b 48 ≡ t → cond t (eqb (length r) 0) (digits (b ∷ r)) ≡ true → eqb b 48 ≡ eqb (value (b ∷ r)) 0
-    go [] true e q = let z = eqb-true b 48 e in e ∙ sym (eq-eqb (value (b ∷ [])) 0 (omega arith))
-    go (c ∷ r) true e q = let z = eqb-true (suc (length r)) 0 q in absurd (omega arith)
-    go r false e q = e ∙ sym (ne-eqb (value (b ∷ r)) 0 (λ z. omega (arith, some-value b r q (eqb-false b 48 e), ten-pos (length r))))
+use Rattle.figures.proofs.Laws.Digits.{thousand, and-both, ten-pos, digit-is, value-lt, value-inj}
+use Rattle.figures.proofs.Laws.Plain.{plain-digits, plain-least, plain-other}
 
 -- the last k digits of n
 pub fixed-length : (k n : ℕ) → length (fixed k n) ≡ k
@@ -171,22 +111,28 @@ width-is k n w l h f g =
 
 -- the number text of n is as long as n is wide
 pub text-fixed : (n : ℕ) → text n ≡ fixed (length (text n)) n
+unfolding text
 text-fixed n = ap (λ (w : ℕ). fixed w n) (sym (fixed-length (width 101 n) n))
 
 pub text-size-is : (n w : ℕ) → 1 ≤ w → w ≤ 102 → n < 10 ^ w → (1 < w → 10 ^ (w - 1) ≤ n) → w ≡ length (text n)
+unfolding text
 text-size-is n w l m h f = sym (fixed-length (width 101 n) n ∙ width-is 101 n w l m h f)
 
 pub text-size-le : (n m : ℕ) → 1 ≤ m → n < 10 ^ m → length (text n) ≤ m
+unfolding text
 text-size-le n m l h = rw fixed-length (narrower n m (width 101 n) h l (width-first 101 n))
 
 pub text-some : (n : ℕ) → 0 < length (text n)
+unfolding text
 text-some n = rw fixed-length (width-least 101 n)
 
 pub text-small : (n : ℕ) → length (text n) ≤ 102
+unfolding text
 text-small n = rw fixed-length (width-most 101 n)
 
 -- with o groups below the highest it has three digits more for each
 pub text-above : (n o : ℕ) → o < 34 → n / 1000 ^ o < 1000 → (0 < o → 1000 ^ o ≤ n) → o * 3 + length (text (n / 1000 ^ o)) ≡ length (text n)
+unfolding text
 text-above n o s h f =
     let x : ℕ = n / 1000 ^ o in
     let k : ℕ = width 101 x in
@@ -216,6 +162,7 @@ width-plain k (b ∷ bs) p h =
     (λ q. rw sub-one (plain-least b bs p q))
 
 pub text-value : (xs : List ℕ) → plain xs ≡ true → length xs ≤ 102 → text (value xs) ≡ xs
+unfolding text
 text-value xs p h = rw (width-plain 101 xs p h) (fixed-value xs (plain-digits xs p))
 
 -- digits of a number whose first is above 0, or of which there is one, are plain
@@ -239,7 +186,9 @@ plain-fixed (suc (suc k)) n l h f =
 -- the number text of n is plain, and its value is n
 module _ (n : ℕ) (h : n < 10 ^ 102) where
   pub value-text : value (text n) ≡ n
+  unfolding text
   value-text = value-fixed (width 101 n) n ∙ mod-eq-of-lt (width-holds 101 n h)
 
   pub plain-text : plain (text n) ≡ true
+  unfolding text
   plain-text = plain-fixed (width 101 n) n (width-least 101 n) (width-holds 101 n h) (width-first 101 n)

@@ -11,7 +11,8 @@ use borrow.Author.Needs.{needs}
 use Rattle.figures.specs.Groups.{groupsOf}
 use Rattle.figures.specs.Text.{value}
 use Rattle.figures.proofs.Laws.Buffer.{sofar, sofar-all}
-use Rattle.figures.proofs.Laws.Groups.{groups-length, group-turn, rest-turn, zeros-after, triple-digits, triple-group, triple-rest, front-small}
+use Rattle.figures.proofs.Laws.Fill.{group-turn, zeros-after, triple-digits, triple-group, triple-rest, front-small}
+use Rattle.figures.proofs.Laws.Groups.{groups-length, rest-turn}
 use Rattle.figures.proofs.groups.fill.Statement.{statement}
 use Rattle.figures.proofs.groups.fill.Tie as tie
 
@@ -81,6 +82,7 @@ fill-spec =
     loop-holds
     (λ c. search needs)
     (λ c. full (c .before .before) (omega arith))
+    (λ c. search needs)
     (λ c. search needs)
     (λ c. search needs)
     (λ c. search needs)

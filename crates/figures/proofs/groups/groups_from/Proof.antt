@@ -8,7 +8,8 @@ use lib.ListN.{length, length-set}
 use borrow.Author.Needs.{needs}
 use Rattle.figures.specs.Groups.{groupsOf}
 use Rattle.figures.proofs.Laws.Buffer.{sofar, sofar-all, sofar-again}
-use Rattle.figures.proofs.Laws.Groups.{groups-length, group-turn, rest-turn}
+use Rattle.figures.proofs.Laws.Fill.{group-turn}
+use Rattle.figures.proofs.Laws.Groups.{groups-length, rest-turn}
 use Rattle.figures.proofs.groups.groups_from.Statement.{statement}
 use Rattle.figures.proofs.groups.groups_from.Tie as tie
 

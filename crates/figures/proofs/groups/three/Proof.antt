@@ -1,4 +1,4 @@
--- `figures::groups::three` meets its contract: 5328 is 48 times 111.
+-- `figures::groups::three` meets its contract: each byte is at least that of '0'.
 -- Assumes nothing.
 use Prim.Native.Nat.{_≤_}
 use native.Mathlib.Omega.{arith}

@@ -8,7 +8,7 @@ use lib.ListN.{length-set}
 use borrow.Author.Needs.{needs}
 use Rattle.base.specs.Buffer.{over}
 use Rattle.figures.proofs.Laws.Buffer.{put-all}
-use Rattle.figures.proofs.Laws.Groups.{two-digits}
+use Rattle.figures.proofs.Laws.Write.{two-digits}
 use Rattle.figures.proofs.money.put_hundredths.Statement.{statement}
 use Rattle.figures.proofs.money.put_hundredths.Tie as tie
 

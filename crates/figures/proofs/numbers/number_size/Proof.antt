@@ -1,12 +1,12 @@
 -- `figures::numbers::number_size` meets its contract: '-' is one byte more.
 -- Assumes nothing.
 use native.Mathlib.Omega.{arith}
-use mathlib.Core.Path.{_≡_, ap}
+use mathlib.Core.Path.{ap}
 use lib.ListN.{length}
 use borrow.Author.Needs.{needs}
 use Rattle.figures.specs.Groups.{total}
-use Rattle.figures.proofs.Laws.Text.{text-small}
 use Rattle.figures.proofs.Laws.Sign.{sign-yes, sign-no}
+use Rattle.figures.proofs.Laws.Text.{text-small}
 use Rattle.figures.proofs.numbers.number_size.Statement.{statement}
 use Rattle.figures.proofs.numbers.number_size.Tie as tie
 

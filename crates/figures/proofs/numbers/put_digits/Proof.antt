@@ -9,7 +9,7 @@ use borrow.Author.Needs.{needs}
 use Rattle.base.specs.Buffer.{over}
 use Rattle.figures.specs.Text.{fixed}
 use Rattle.figures.proofs.Laws.Buffer.{put-all}
-use Rattle.figures.proofs.Laws.Groups.{one-digit, two-digits, three-digits}
+use Rattle.figures.proofs.Laws.Write.{one-digit, two-digits, three-digits}
 use Rattle.figures.proofs.numbers.put_digits.Statement.{statement}
 use Rattle.figures.proofs.numbers.put_digits.Tie as tie
 

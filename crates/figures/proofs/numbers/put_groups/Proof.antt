@@ -12,8 +12,9 @@ use Rattle.base.specs.Buffer.{over}
 use Rattle.figures.specs.Groups.{total}
 use Rattle.figures.specs.Text.{fixed}
 use Rattle.figures.proofs.Laws.Buffer.{wrote}
-use Rattle.figures.proofs.Laws.Groups.{group-of, group-lt, fixed-low}
+use Rattle.figures.proofs.Laws.Groups.{group-of, group-lt}
 use Rattle.figures.proofs.Laws.Text.{fixed-length}
+use Rattle.figures.proofs.Laws.Write.{fixed-low}
 use Rattle.figures.proofs.numbers.put_groups.Statement.{statement}
 use Rattle.figures.proofs.numbers.put_groups.Tie as tie
 

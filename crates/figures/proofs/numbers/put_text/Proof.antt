@@ -10,8 +10,9 @@ use Rattle.base.specs.Buffer.{over}
 use Rattle.figures.specs.Groups.{total}
 use Rattle.figures.specs.Text.{fixed, text}
 use Rattle.figures.proofs.Laws.Buffer.{wrote}
-use Rattle.figures.proofs.Laws.Groups.{group-of, group-lt, total-size, fixed-high}
+use Rattle.figures.proofs.Laws.Groups.{group-of, group-lt, total-size}
 use Rattle.figures.proofs.Laws.Text.{fixed-length, text-some, text-fixed}
+use Rattle.figures.proofs.Laws.Write.{fixed-high}
 use Rattle.figures.proofs.numbers.put_text.Statement.{statement}
 use Rattle.figures.proofs.numbers.put_text.Tie as tie
 

@@ -9,7 +9,7 @@ use lib.ListN.{length, drop, drop-of-length-le}
 use borrow.Author.Tests.{le-leb, lt-leb}
 use Rattle.figures.specs.Text.{value}
 use Rattle.figures.proofs.Laws.Compare.{shorter, less-at, same-at}
-use Rattle.figures.proofs.Laws.Text.{plain-digits}
+use Rattle.figures.proofs.Laws.Plain.{plain-digits}
 use Rattle.figures.proofs.refusals.at_most.Statement.{statement}
 use Rattle.figures.proofs.refusals.at_most.Tie as tie
 

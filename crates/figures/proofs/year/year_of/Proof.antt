@@ -6,8 +6,8 @@ use mathlib.Core.Path.{_≡_, sym, ap, _∙_}
 use lib.IntN.{pos, negℤ}
 use borrow.Author.Needs.{needs}
 use Rattle.figures.specs.Text.{digits, value, unsigned, negative}
+use Rattle.figures.proofs.Laws.Plain.{plain-digits}
 use Rattle.figures.proofs.Laws.Sign.{formed-unsigned}
-use Rattle.figures.proofs.Laws.Text.{plain-digits}
 use Rattle.figures.proofs.Laws.Year.{small-fits, small-reads, minus-fits, minus-reads, limit-any, limit-minus, limit-plain, year-minus, year-plain}
 use Rattle.figures.proofs.year.year_of.Statement.{statement}
 use Rattle.figures.proofs.year.year_of.Tie as tie

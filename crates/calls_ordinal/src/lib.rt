@@ -1,0 +1,136 @@
+// Ukrainian ordinals, digit ordinals and years from bytes to bytes.
+use base::Answer;
+use uk::Settings;
+ghost use mathlib.Core.Path.{_≡_};
+ghost use mathlib.Core.Bool.{true};
+ghost use Prim.Native.Nat.{_≤_, _<_};
+ghost use lib.ListN.{length};
+ghost use Rattle.base.specs.Answer.{fitted, replied, Answers};
+ghost use Rattle.figures.specs.Text.{digits};
+ghost use Rattle.ordinal.specs.DigitOrdinal.{digitOrdinal};
+ghost use Rattle.ordinal.specs.Year.{early};
+ghost use Rattle.calls_ordinal.specs.Calls.{unlessSettings, ordinalText, digitOrdinalText, ordinalPhrase, yearPhrase};
+
+// Whether a year is 0 or below.
+fn is_early(year: i64) -> bool
+    ensures { λ r. ⌜ r ≡ early year ⌝ }
+{
+    year <= 0
+}
+
+// The refusal of an ordinal's settings and text, 0 for none.
+fn refuse_ordinal(gender: u32, number: u32, case: u32, text: &[u8]) -> u32
+    ensures { λ r. ⌜ r ≡ unlessSettings gender number case (ordinalText (now (text .entry))) ⌝ }
+{
+    if uk::in_range(gender, number, case) {
+        figures::refusals::number_of(figures::refusals::judge(text, false, 66))
+    } else {
+        1
+    }
+}
+
+// The refusal of a digit ordinal's settings and text, 0 for none.
+fn refuse_digit_ordinal(gender: u32, number: u32, case: u32, text: &[u8]) -> u32
+    ensures { λ r. ⌜ r ≡ unlessSettings gender number case (digitOrdinalText (now (text .entry))) ⌝ }
+{
+    if uk::in_range(gender, number, case) {
+        figures::refusals::number_of(figures::refusals::judge_digit_ordinal(text))
+    } else {
+        1
+    }
+}
+
+// The ordinal of an admitted text.
+fn say_ordinal(settings: Settings, text: &[u8], out: &mut [u8]) -> Answer
+    requires { ⌜ ((settings .gender < 3) × (settings .number < 2) × (settings .case < 6)) × (digits (now text) ≡ true) ⌝ }
+    ensures { λ r. ⌜ Answers r (now (out .entry)) (now (out .exit)) (fitted (now (out .entry)) (ordinalPhrase (settings .gender) (settings .number) (settings .case) (now (text .entry)))) ⌝ }
+{
+    let gs = figures::groups::groups22(text);
+    let mut plan = [0u32; 116];
+    let n = spell_ordinal::plan_ordinal(settings, &gs, &mut plan);
+    phrase::speak(&plan, n, out)
+}
+
+// The digit ordinal of an admitted text.
+fn say_digit_ordinal(settings: Settings, text: &[u8], out: &mut [u8]) -> Answer
+    requires { ⌜ ((settings .gender < 3) × (settings .number < 2) × (settings .case < 6)) × (digits (now text) ≡ true) × (0 < length (now text)) × (length (now text) ≤ 39) ⌝ }
+    ensures { λ r. ⌜ Answers r (now (out .entry)) (now (out .exit)) (fitted (now (out .entry)) (digitOrdinal (settings .gender) (settings .number) (settings .case) (now (text .entry)))) ⌝ }
+{
+    let mut plan = [0u32; 40];
+    let n = spell_ordinal::plan_digit_ordinal(settings, text, &mut plan);
+    phrase::speak(&plan, n, out)
+}
+
+// A year.
+fn say_year(settings: Settings, year: i64, out: &mut [u8]) -> Answer
+    requires { ⌜ (settings .gender < 3) × (settings .number < 2) × (settings .case < 6) ⌝ }
+    ensures { λ r. ⌜ Answers r (now (out .entry)) (now (out .exit)) (fitted (now (out .entry)) (yearPhrase (settings .number) (settings .case) year)) ⌝ }
+{
+    let mut gs = [0u16; 22];
+    figures::groups::groups_from(figures::year::magnitude(year), &mut gs);
+    let mut plan = [0u32; 119];
+    let n = spell_ordinal::plan_year(settings, is_early(year), &gs, &mut plan);
+    phrase::speak(&plan, n, out)
+}
+
+// The ordinal of a number text.
+pub fn to_ordinal(
+    gender: u32,
+    number: u32,
+    case: u32,
+    text: &[u8],
+    out: &mut [u8],
+) -> Answer
+    ensures { λ r. ⌜ Answers r (now (out .entry)) (now (out .exit)) (replied (unlessSettings gender number case (ordinalText (now (text .entry)))) (ordinalPhrase gender number case (now (text .entry))) (now (out .entry))) ⌝ }
+{
+    let n = refuse_ordinal(gender, number, case, text);
+    if n == 0 {
+        say_ordinal(uk::settings_of(gender, number, case), text, out)
+    } else {
+        Answer {
+            number: n,
+            length: 0,
+        }
+    }
+}
+
+// The digit ordinal of a number text.
+pub fn to_ordinal_num(
+    gender: u32,
+    number: u32,
+    case: u32,
+    text: &[u8],
+    out: &mut [u8],
+) -> Answer
+    ensures { λ r. ⌜ Answers r (now (out .entry)) (now (out .exit)) (replied (unlessSettings gender number case (digitOrdinalText (now (text .entry)))) (digitOrdinal gender number case (now (text .entry))) (now (out .entry))) ⌝ }
+{
+    let n = refuse_digit_ordinal(gender, number, case, text);
+    if n == 0 {
+        say_digit_ordinal(uk::settings_of(gender, number, case), text, out)
+    } else {
+        Answer {
+            number: n,
+            length: 0,
+        }
+    }
+}
+
+// The phrase of a year.
+pub fn to_year(
+    gender: u32,
+    number: u32,
+    case: u32,
+    year: i64,
+    out: &mut [u8],
+) -> Answer
+    ensures { λ r. ⌜ Answers r (now (out .entry)) (now (out .exit)) (replied (unlessSettings gender number case 0) (yearPhrase number case year) (now (out .entry))) ⌝ }
+{
+    if uk::in_range(gender, number, case) {
+        say_year(uk::settings_of(gender, number, case), year, out)
+    } else {
+        Answer {
+            number: 1,
+            length: 0,
+        }
+    }
+}

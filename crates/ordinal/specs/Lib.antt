@@ -1,0 +1,4 @@
+pub mod OrdinalTables
+pub mod Ordinal
+pub mod DigitOrdinal
+pub mod Year

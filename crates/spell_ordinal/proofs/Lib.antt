@@ -1,0 +1,4 @@
+pub mod Laws
+pub mod Cases
+pub mod Orders
+pub mod Figures
