@@ -94,6 +94,38 @@ yokepear_answer yokepear_uk_from_cardinal(uint32_t gender, uint32_t number,
                                           const uint8_t *phrase, size_t phrase_length,
                                           uint8_t *out, size_t out_length);
 
+/* ---- Ukrainian ordinals, digit ordinals and years ------------------------------------------ */
+
+#define YOKEPEAR_UK_ORDINAL_PHRASE 1776
+#define YOKEPEAR_UK_ORDINAL_NUM_PHRASE 44
+#define YOKEPEAR_UK_YEAR_PHRASE 495
+
+/*
+ * Speaks the ordinal of a number of at most 66 digits, which is not negative: 21000, masculine,
+ * singular, nominative is `двадцятиоднотисячний`. In the plural `gender` has no effect.
+ * Refuses by 1, 3, 4, 5, 7.
+ */
+yokepear_answer yokepear_uk_to_ordinal(uint32_t gender, uint32_t number, uint32_t grammatical_case,
+                                       const uint8_t *text, size_t text_length,
+                                       uint8_t *out, size_t out_length);
+
+/*
+ * Writes a digit ordinal: 42, masculine, singular, genitive is `42-го`. The number is not negative
+ * and at most 340282366920938463463374607431768211455. In the plural `gender` has no effect.
+ * Refuses by 1, 3, 4, 5, 7.
+ */
+yokepear_answer yokepear_uk_to_ordinal_num(uint32_t gender, uint32_t number,
+                                           uint32_t grammatical_case,
+                                           const uint8_t *text, size_t text_length,
+                                           uint8_t *out, size_t out_length);
+
+/*
+ * Speaks a year, any int64_t: -43, singular, genitive is `сорок третього року до н.е.`; so end
+ * year 0 and the years below. `gender` has no effect on years. Refuses by 1 and 7.
+ */
+yokepear_answer yokepear_uk_to_year(uint32_t gender, uint32_t number, uint32_t grammatical_case,
+                                    int64_t year, uint8_t *out, size_t out_length);
+
 /* ---- end of the calls ---------------------------------------------------------------------- */
 
 #ifdef __cplusplus

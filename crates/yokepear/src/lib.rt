@@ -3,6 +3,8 @@ use base::Answer;
 
 ghost use Rattle.base.specs.Answer.{replied, Answers, ReadsUnless};
 ghost use Rattle.calls_uk.specs.Cardinals.{refusedCardinal, refusedSetting, cardinal, Means};
+ghost use Rattle.ordinal.specs.DigitOrdinal.{digitOrdinal};
+ghost use Rattle.calls_ordinal.specs.Calls.{unlessSettings, ordinalText, digitOrdinalText, ordinalPhrase, yearPhrase};
 
 // The cardinal of a number text.
 #[no_mangle]
@@ -30,4 +32,46 @@ pub extern "C" fn yokepear_uk_from_cardinal(
     ensures { λ r. ⌜ ReadsUnless (refusedSetting gender number case) (Means gender case) (now (phrase .entry)) r (now (out .entry)) (now (out .exit)) ⌝ }
 {
     calls_uk::from_cardinal(gender, number, case, phrase, out)
+}
+
+// The ordinal of a number text.
+#[no_mangle]
+pub extern "C" fn yokepear_uk_to_ordinal(
+    gender: u32,
+    number: u32,
+    case: u32,
+    text: &[u8],
+    out: &mut [u8],
+) -> Answer
+    ensures { λ r. ⌜ Answers r (now (out .entry)) (now (out .exit)) (replied (unlessSettings gender number case (ordinalText (now (text .entry)))) (ordinalPhrase gender number case (now (text .entry))) (now (out .entry))) ⌝ }
+{
+    calls_ordinal::to_ordinal(gender, number, case, text, out)
+}
+
+// The digit ordinal of a number text.
+#[no_mangle]
+pub extern "C" fn yokepear_uk_to_ordinal_num(
+    gender: u32,
+    number: u32,
+    case: u32,
+    text: &[u8],
+    out: &mut [u8],
+) -> Answer
+    ensures { λ r. ⌜ Answers r (now (out .entry)) (now (out .exit)) (replied (unlessSettings gender number case (digitOrdinalText (now (text .entry)))) (digitOrdinal gender number case (now (text .entry))) (now (out .entry))) ⌝ }
+{
+    calls_ordinal::to_ordinal_num(gender, number, case, text, out)
+}
+
+// The phrase of a year.
+#[no_mangle]
+pub extern "C" fn yokepear_uk_to_year(
+    gender: u32,
+    number: u32,
+    case: u32,
+    year: i64,
+    out: &mut [u8],
+) -> Answer
+    ensures { λ r. ⌜ Answers r (now (out .entry)) (now (out .exit)) (replied (unlessSettings gender number case 0) (yearPhrase number case year) (now (out .entry))) ⌝ }
+{
+    calls_ordinal::to_year(gender, number, case, year, out)
 }
