@@ -2,7 +2,6 @@
 // The last arm of each is for no number. It returns no constant: so the compiler keeps each text's stores in its own arm.
 use base::front;
 use bytes::copy;
-
 ghost use mathlib.Core.Path.{_≡_};
 ghost use Prim.Native.Nat.{_≤_, _<_};
 ghost use lib.ListN.{length};
@@ -135,7 +134,8 @@ const W61: [u8; 15] = *b"\x74\x72\xc3\xa9\x64\xc3\xa9\x63\x69\x6c\x6c\x69\x61\x7
 
 const W62: [u8; 18] = *b"\x71\x75\x61\x74\x74\x75\x6f\x72\x64\xc3\xa9\x63\x69\x6c\x6c\x69\x6f\x6e"; // quattuordécillion
 
-const W63: [u8; 19] = *b"\x71\x75\x61\x74\x74\x75\x6f\x72\x64\xc3\xa9\x63\x69\x6c\x6c\x69\x61\x72\x64"; // quattuordécilliard
+const W63: [u8; 19] =
+    *b"\x71\x75\x61\x74\x74\x75\x6f\x72\x64\xc3\xa9\x63\x69\x6c\x6c\x69\x61\x72\x64"; // quattuordécilliard
 
 const W64: [u8; 14] = *b"\x71\x75\x69\x6e\x64\xc3\xa9\x63\x69\x6c\x6c\x69\x6f\x6e"; // quindécillion
 

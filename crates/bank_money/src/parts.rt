@@ -2,7 +2,6 @@
 // The last arm of each is for no number. It returns no constant: so the compiler keeps each text's stores in its own arm.
 use base::front;
 use bytes::copy;
-
 ghost use mathlib.Core.Path.{_≡_};
 ghost use Prim.Native.Nat.{_≤_, _<_};
 ghost use lib.ListN.{length};

@@ -74,13 +74,7 @@ fn say_year(settings: Settings, year: i64, out: &mut [u8]) -> Answer
 }
 
 // The ordinal of a number text.
-pub fn to_ordinal(
-    gender: u32,
-    number: u32,
-    case: u32,
-    text: &[u8],
-    out: &mut [u8],
-) -> Answer
+pub fn to_ordinal(gender: u32, number: u32, case: u32, text: &[u8], out: &mut [u8]) -> Answer
     ensures { λ r. ⌜ Answers r (now (out .entry)) (now (out .exit)) (replied (unlessSettings gender number case (ordinalText (now (text .entry)))) (ordinalPhrase gender number case (now (text .entry))) (now (out .entry))) ⌝ }
 {
     let n = refuse_ordinal(gender, number, case, text);
@@ -95,13 +89,7 @@ pub fn to_ordinal(
 }
 
 // The digit ordinal of a number text.
-pub fn to_ordinal_num(
-    gender: u32,
-    number: u32,
-    case: u32,
-    text: &[u8],
-    out: &mut [u8],
-) -> Answer
+pub fn to_ordinal_num(gender: u32, number: u32, case: u32, text: &[u8], out: &mut [u8]) -> Answer
     ensures { λ r. ⌜ Answers r (now (out .entry)) (now (out .exit)) (replied (unlessSettings gender number case (digitOrdinalText (now (text .entry)))) (digitOrdinal gender number case (now (text .entry))) (now (out .entry))) ⌝ }
 {
     let n = refuse_digit_ordinal(gender, number, case, text);
@@ -116,13 +104,7 @@ pub fn to_ordinal_num(
 }
 
 // The phrase of a year.
-pub fn to_year(
-    gender: u32,
-    number: u32,
-    case: u32,
-    year: i64,
-    out: &mut [u8],
-) -> Answer
+pub fn to_year(gender: u32, number: u32, case: u32, year: i64, out: &mut [u8]) -> Answer
     ensures { λ r. ⌜ Answers r (now (out .entry)) (now (out .exit)) (replied (unlessSettings gender number case 0) (yearPhrase number case year) (now (out .entry))) ⌝ }
 {
     if uk::in_range(gender, number, case) {

@@ -2,7 +2,6 @@
 use base::Answer;
 use read_uk::Seen;
 use uk::Settings;
-
 ghost use mathlib.Core.Path.{_≡_};
 ghost use mathlib.Core.Bool.{true};
 ghost use Prim.Native.Nat.{_≤_, _<_};

@@ -1,6 +1,5 @@
 // Phrases: a plan is built piece by piece, measured, written, and compared with a text. Every kind of phrase goes through these functions.
 use base::Answer;
-
 ghost use mathlib.Core.Path.{_≡_};
 ghost use Prim.Native.Nat.{_+_, _*_, _≤_, _<_};
 ghost use mathlib.Core.List.{[], _∷_};

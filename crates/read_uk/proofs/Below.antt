@@ -44,8 +44,7 @@ module _ (ws : List Word) where
   one-below o (suc d) e =
       let p = one-below o d e in
       let a : o + suc d ≡ suc (o + d) = omega arith in
-      let n = ne-eqb (taken 0 ws .order) (suc (o + d)) (λ z. omega arith) in
-      (
+      let n = ne-eqb (taken 0 ws .order) (suc (o + d)) (λ z. omega arith) in (
         rw (a, n, p .0) (append-assoc (sums o (taken 0 ws .rest)) (taken 0 ws .value ∷ zeros d) (0 ∷ []) ∙ rw (zeros-more d) refl),
         rw (a, n) (p .1),
       )

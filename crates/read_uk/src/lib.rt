@@ -1,7 +1,6 @@
 // The reader of Ukrainian cardinals. It takes any bytes word by word, makes a sign and groups of them, and compares the words that these have
 // under the settings, planned as the speller plans them, with the bytes.
 use uk::Settings;
-
 ghost use mathlib.Core.Path.{_≡_};
 ghost use mathlib.Core.Bool.{not};
 ghost use mathlib.Core.List.{_++_};

@@ -1,6 +1,5 @@
 // The calls for a host in C. Each hands on to the crate of its kind; the contracts say all that a host may rely on, and ask nothing of it.
 use base::Answer;
-
 ghost use Rattle.base.specs.Answer.{replied, Answers, ReadsUnless};
 ghost use Rattle.calls_uk.specs.Cardinals.{refusedCardinal, refusedSetting, cardinal, Means};
 ghost use Rattle.ordinal.specs.DigitOrdinal.{digitOrdinal};

@@ -66,7 +66,7 @@ returns c =
     let a = c .before .before .before .before .before .before .before .before .before .before .before .before .before .before .before .before in
     let m = made (c .before .before .before .before .before .before .before .before .before .before .before) in (
       read-zero _ (lawful (a .args .settings .gender) (a .args .settings .case) (a .pre .0) (a .pre .1)) (a .args .s .now) (c .before .before .before .before .before .before .before .before .before .before .before .groups .last .1 .1 .0) _ (m .size) (m .small) (m .sign) (m .groups)
-      (sym (c .before .before .before .before .before .before .before .before .is-zero .ensures) ∙ c .if2 .taken) (decided (c .before .before) .holds (c .before .if1 .taken)),
+          (sym (c .before .before .before .before .before .before .before .before .is-zero .ensures) ∙ c .if2 .taken) (decided (c .before .before) .holds (c .before .if1 .taken)),
       m .small,
       m .size,
     )
@@ -76,7 +76,7 @@ returns-2 c =
     let a = c .before .before .before .before .before .before .before .before .before .before .before .before .before .before .before .before .before in
     let m = made (c .before .before .before .before .before .before .before .before .before .before .before .before) in (
       read-signed _ (lawful (a .args .settings .gender) (a .args .settings .case) (a .pre .0) (a .pre .1)) (a .args .s .now) (c .before .before .before .before .before .before .before .before .before .before .before .before .groups .last .1 .1 .0) _ (m .size) (m .small) (m .sign) (m .groups)
-      true (lt-ltb _ _ (c .if3 .taken)) (sym (c .before .before .before .before .before .before .before .before .before .is-zero .ensures) ∙ c .before .if2 .left) (decided (c .before .before .before) .holds (c .before .before .if1 .taken)),
+          true (lt-ltb _ _ (c .if3 .taken)) (sym (c .before .before .before .before .before .before .before .before .before .is-zero .ensures) ∙ c .before .if2 .left) (decided (c .before .before .before) .holds (c .before .before .if1 .taken)),
       m .small,
       m .size,
     )
@@ -86,7 +86,7 @@ returns-3 c =
     let a = c .before .before .before .before .before .before .before .before .before .before .before .before .before .before .before .before .before in
     let m = made (c .before .before .before .before .before .before .before .before .before .before .before .before) in (
       read-signed _ (lawful (a .args .settings .gender) (a .args .settings .case) (a .pre .0) (a .pre .1)) (a .args .s .now) (c .before .before .before .before .before .before .before .before .before .before .before .before .groups .last .1 .1 .0) _ (m .size) (m .small) (m .sign) (m .groups)
-      false (le-ltb _ _ (c .if3 .left)) (sym (c .before .before .before .before .before .before .before .before .before .is-zero .ensures) ∙ c .before .if2 .left) (decided (c .before .before .before) .holds (c .before .before .if1 .taken)),
+          false (le-ltb _ _ (c .if3 .left)) (sym (c .before .before .before .before .before .before .before .before .before .is-zero .ensures) ∙ c .before .if2 .left) (decided (c .before .before .before) .holds (c .before .before .if1 .taken)),
       m .small,
       m .size,
     )
@@ -96,7 +96,7 @@ returns-4 c =
     let a = c .before .before .before .before .before .before .before .before .before .before .before .before .before .before .before in
     let m = made (c .before .before .before .before .before .before .before .before .before .before) in (
       read-none _ (lawful (a .args .settings .gender) (a .args .settings .case) (a .pre .0) (a .pre .1)) (a .args .s .now) (c .before .before .before .before .before .before .before .before .before .before .groups .last .1 .1 .0) _ (m .size) (m .small) (m .sign) (m .groups)
-      (decided (c .before) .fails (c .if1 .left)),
+          (decided (c .before) .fails (c .if1 .left)),
       m .small,
       m .size,
     )

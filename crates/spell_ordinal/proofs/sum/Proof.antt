@@ -24,8 +24,7 @@ loop-again : tie.Need-loop-again Inv-loop μ-loop
 loop-again c =
     let s = c .before .before .before in
     let l = c .before .before .loop in
-    let gs = s .args .gs .now in
-    (
+    let gs = s .args .gs .now in (
       omega arith,
       omega (arith, l .inv .1, sum-next gs (l .i) (omega (arith, s .pre .count, c .before .loop-test .taken))),
       omega (arith, l .inv .2, s .pre .below (l .i)),
