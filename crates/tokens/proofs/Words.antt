@@ -97,3 +97,21 @@ unfolding split
 split-joined [] s = refl
 split-joined (w ∷ []) s = ap split (append-nil w) ∙ split-last w (s .0)
 split-joined (w ∷ v ∷ ws) s = split-more w 32 (v ++ spaced ws) (s .0) refl ∙ ap (λ (l : List Word). w ∷ l) (split-joined (v ∷ ws) (s .1))
+
+-- a text's first word with one more byte looked at, its key in hand
+abbrev pub Begun : List ℕ → ℕ → ℕ → Type 0
+Begun s i k = (key (firstWord s) ≡ keyFrom k (firstWord (drop i s))) × (afterWord s ≡ afterWord (drop i s))
+
+-- what is answered of a first word
+abbrev pub Took : List ℕ → ℕ → ℕ → Type 0
+Took s k n = ((k ≡ key (firstWord s)) × (k < 65536)) × ((drop n s ≡ afterWord s) × (n ≤ length s) × (0 < length s → 0 < n))
+
+module _ (s : List ℕ) (i k : ℕ) (l : k < 65536) (b : Begun s i k) where
+  pub took-gap : (n : ℕ) → n ≡ i + 1 → i < length s → isGap (getD s i 0) ≡ true → Took s k n
+  took-gap n e h g = let p = word-ends s i h k (b .0) (b .1) g in rw e ((p .0, l), (p .1, omega arith, λ _. omega arith))
+
+  pub took-all : length s ≤ i → i ≤ length s → Took s k i
+  took-all h m = let p = text-ends s i k h (b .0) (b .1) in ((p .0, l), (p .1, m, λ z. omega arith))
+
+  pub begun-on : (m n : ℕ) → n ≡ i + 1 → m ≡ (k * 371 + getD s i 0) % 65536 → i < length s → isGap (getD s i 0) ≡ false → Begun s n m
+  begun-on m n e f h g = rw (e, f) (word-goes-on s i h k (b .0) (b .1) g)
