@@ -126,6 +126,36 @@ yokepear_answer yokepear_uk_to_ordinal_num(uint32_t gender, uint32_t number,
 yokepear_answer yokepear_uk_to_year(uint32_t gender, uint32_t number, uint32_t grammatical_case,
                                     int64_t year, uint8_t *out, size_t out_length);
 
+/* ---- Ukrainian money ----------------------------------------------------------------------- */
+
+#define YOKEPEAR_UK_CURRENCY_PHRASE 709
+#define YOKEPEAR_UK_CURRENCY_TEXT 23
+
+/*
+ * Speaks an amount: UAH 1.02 is `одна гривня дві копійки`, UAH 0.11 `одинадцять копійок`.
+ * A money text may add `.` and two digits, not both zero: `5`, `5.05` and `0.50`, but neither
+ * `5.00` nor `5.5`. It is not negative, and its whole part at most 18446744073709551615.
+ * The gender is the currency's: `gender` and `number` have no effect. The code is one of
+ *   AED ARS AUD BRL CAD CHF CLP CNY COP CRC DINAR DOLLAR DZD EUR GBP HKD IDR ILS INR JPY KRW KWD
+ *   KZT MXN MYR NOK NZD PEN PESO PHP PLN QAR RIYAL RUB SAR SGD THB TRY TWD UAH USD UYU VND ZAR
+ * in capitals. Refuses by 1, 2, 3, 4, 5, 7.
+ */
+yokepear_answer yokepear_uk_to_currency(uint32_t gender, uint32_t number, uint32_t grammatical_case,
+                                        const uint8_t *code, size_t code_length,
+                                        const uint8_t *text, size_t text_length,
+                                        uint8_t *out, size_t out_length);
+
+/*
+ * Reads a phrase and writes its money text: exactly the phrases that yokepear_uk_to_currency
+ * says in the same settings and currency are read, every other one is refused, also one for an
+ * amount above the limit. Refuses by 1, 2, 6, 7.
+ */
+yokepear_answer yokepear_uk_from_currency(uint32_t gender, uint32_t number,
+                                          uint32_t grammatical_case,
+                                          const uint8_t *code, size_t code_length,
+                                          const uint8_t *phrase, size_t phrase_length,
+                                          uint8_t *out, size_t out_length);
+
 /* ---- end of the calls ---------------------------------------------------------------------- */
 
 #ifdef __cplusplus

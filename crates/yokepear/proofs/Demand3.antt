@@ -4,7 +4,14 @@ use Prim.Native.Nat.{ℕ, _<_}
 use Rattle.base.specs.Claim.{Readable}
 use Rattle.calls_uk.specs.Cardinals as uk
 use Rattle.calls_uk.proofs.Theorem as uk-cardinals
+use Rattle.money.specs.Currencies.{currencyAt}
+use Rattle.calls_money.specs.MoneyCalls as money
+use Rattle.calls_money.proofs.Theorem as uk-money
 
 -- Ukrainian cardinals, under every gender and case
 pub ukrainian-cardinals : (gender case : ℕ) → gender < 3 → case < 6 → Readable uk.Admitted (uk.cardinal gender case) (uk.Means gender case)
 ukrainian-cardinals = uk-cardinals.readable
+
+-- Ukrainian money, in every currency and case
+pub ukrainian-money : (currency case : ℕ) → currency < 44 → case < 6 → Readable money.Admitted (money.moneyPhrase (currencyAt currency) case) (money.Means (currencyAt currency) case)
+ukrainian-money = uk-money.readable

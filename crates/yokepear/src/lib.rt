@@ -2,6 +2,9 @@
 use base::Answer;
 ghost use Rattle.base.specs.Answer.{replied, Answers, ReadsUnless};
 ghost use Rattle.calls_uk.specs.Cardinals.{refusedCardinal, refusedSetting, cardinal, Means};
+ghost use Rattle.money.specs.Currencies.{currencyAt};
+ghost use Rattle.money.specs.Codes.{placeOf};
+ghost use Rattle.calls_money.specs.MoneyCalls.{refusedCode, refusedAmount, moneyPhrase, Means as MoneyMeans};
 ghost use Rattle.ordinal.specs.DigitOrdinal.{digitOrdinal};
 ghost use Rattle.calls_ordinal.specs.Calls.{unlessSettings, ordinalText, digitOrdinalText, ordinalPhrase, yearPhrase};
 
@@ -73,4 +76,34 @@ pub extern "C" fn yokepear_uk_to_year(
     ensures { λ r. ⌜ Answers r (now (out .entry)) (now (out .exit)) (replied (unlessSettings gender number case 0) (yearPhrase number case year) (now (out .entry))) ⌝ }
 {
     calls_ordinal::to_year(gender, number, case, year, out)
+}
+
+// The phrase of a money text in a currency.
+#[no_mangle]
+pub extern "C" fn yokepear_uk_to_currency(
+    gender: u32,
+    number: u32,
+    case: u32,
+    code: &[u8],
+    text: &[u8],
+    out: &mut [u8],
+) -> Answer
+    ensures { λ r. ⌜ Answers r (now (out .entry)) (now (out .exit)) (replied (refusedAmount gender number case (now (code .entry)) (now (text .entry))) (moneyPhrase (currencyAt (placeOf (now (code .entry)))) case (now (text .entry))) (now (out .entry))) ⌝ }
+{
+    calls_money::to_currency(gender, number, case, code, text, out)
+}
+
+// The money text of an amount in a currency.
+#[no_mangle]
+pub extern "C" fn yokepear_uk_from_currency(
+    gender: u32,
+    number: u32,
+    case: u32,
+    code: &[u8],
+    phrase: &[u8],
+    out: &mut [u8],
+) -> Answer
+    ensures { λ r. ⌜ ReadsUnless (refusedCode gender number case (now (code .entry))) (MoneyMeans (currencyAt (placeOf (now (code .entry)))) case) (now (phrase .entry)) r (now (out .entry)) (now (out .exit)) ⌝ }
+{
+    calls_money::from_currency(gender, number, case, code, phrase, out)
 }

@@ -1,0 +1,4 @@
+pub mod Texts
+pub mod Entries
+pub mod Theorem
+pub mod Samples

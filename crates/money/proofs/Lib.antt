@@ -1,0 +1,5 @@
+pub mod Tables
+pub mod Keys
+pub mod Names
+pub mod Apart
+pub mod Amounts

@@ -1,0 +1,21 @@
+-- What the reader of money promises, by the grammar alone.
+-- Assumes nothing.
+use Prim.Native.Nat.{ℕ, _<_}
+use mathlib.Core.Path.{_≡_}
+use mathlib.Core.List.{List}
+use lib.ListN.{length}
+use Rattle.figures.specs.Groups.{total, Groups}
+use Rattle.money.specs.Currencies.{Currency}
+use Rattle.money.specs.MoneyGrammar.{SaysMoney}
+use Rattle.read_money.specs.declared.Seen.{Seen}
+use Rattle.read_money.specs.declared.Seen.the-variants.{Refused, Amount}
+
+pub record ReadMoney (c : Currency) (case : ℕ) (s : List ℕ) (r : Seen) (gs : List ℕ) : Type 0 where
+  -- bytes that are an amount are read with the groups of its whole part and its hundredths
+  pub reads : (n h : ℕ) → SaysMoney c case s n h → (r ≡ Amount h) × (total gs ≡ n)
+  -- bytes that are none are refused
+  pub refuses : ((n h : ℕ) → SaysMoney c case s n h → ⊥) → r ≡ Refused
+  -- 22 groups, and groups and hundredths in their ranges
+  pub size : length gs ≡ 22
+  pub groups : Groups gs
+  pub hundredths : (h : ℕ) → r ≡ Amount h → h < 100

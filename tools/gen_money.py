@@ -1,0 +1,242 @@
+#!/usr/bin/env python3
+# gen_money.py SOURCE: writes what crates/money has of the currencies, from SOURCE/lang/uk.rs and SOURCE/currency.rs: the tables of its
+# specs, the code's tables and the proof text that follows them, so that no word is typed twice.
+# Run by hand after a change of these files; what it writes is committed (run `rt fmt` afterwards).
+import os
+import re
+import sys
+
+ROOT = os.path.join(os.path.dirname(os.path.abspath(__file__)), '..', 'crates')
+SOURCE = sys.argv[1]
+UK = open(os.path.join(SOURCE, 'lang', 'uk.rs'), encoding='utf8').read()
+CURRENCY = open(os.path.join(SOURCE, 'currency.rs'), encoding='utf8').read()
+
+# a class, its table in uk.rs and in the specs
+CLASSES = [
+    ('hard2', 'NOUN_2ST_GROUP_HARD_DECLENSIONS', 'noun2stGroupHardDeclensions', 'долар'),
+    ('soft2', 'NOUN_2ST_GROUP_SOFT_DECLENSIONS', 'noun2stGroupSoftDeclensions', 'юань'),
+    ('vowel1', 'NOUN_1ST_GROUP_SOFT_DECLENSIONS_VOWEL', 'noun1stGroupSoftDeclensionsVowel', 'рупія'),
+    ('hard1', 'NOUN_1ST_GROUP_HARD_DECLENSIONS', 'noun1stGroupHardDeclensions', 'єна'),
+    ('adj', None, 'adjectiveHardMasculine', 'злотий'),
+    ('fixed', None, None, None),
+    ('hryvnia', 'HRYVNIAS', 'hryvnias', None),
+    ('kopiyka', 'KOPIYKAS', 'kopiykas', None),
+]
+NUMBER = {c[0]: i for i, c in enumerate(CLASSES)}
+
+
+def rows(name):
+    body = re.search(r'const %s: [^=]*= (\[.*?\]);' % name, UK, re.S).group(1)
+    body = re.sub(r'//[^\n]*', '', body)
+    found = re.findall(r'\[([^\[\]]*)\]', body)
+    return [re.findall(r'"([^"]*)"', r) for r in found]
+
+
+def table_of(cls):
+    name, source = cls[0], cls[1]
+    if name == 'adj':
+        return [rows('ADJECTIVE_HARD_FLEXIONS_SINGULAR')[0], rows('ADJECTIVE_HARD_FLEXIONS_PLURAL')[0]]
+    return rows(source) if source else []
+
+
+TABLES = [table_of(c) for c in CLASSES]
+CODES = re.findall(r'"(\w+)" => Ok\(Currency::(\w+)\)', CURRENCY)
+assert len(CODES) == 44 and all(a == b for a, b in CODES)
+CODES = [a for a, b in CODES]
+
+
+def function(name):
+    start = UK.index('fn %s(' % name)
+    return UK[start:UK.index('\n    fn ', start + 1)]
+
+
+# code -> its words, a stem and a class each
+def nouns(name):
+    body = function(name)
+    body = body[body.index('match currency {') + 16:]
+    heads = list(re.finditer(r'((?:Currency::\w+[\s|]*)+)=>', body))
+    ends = [h.start() for h in heads[1:]] + [len(body)]
+    out = {}
+    for found, end in zip(heads, ends):
+        head, tail = found.group(1), body[found.end():end]
+        used = [c[0] for c in CLASSES if c[1] and c[1] + '[' in tail]
+        adjective = 'ADJECTIVE_HARD_FLEXIONS_PLURAL' in tail and 'Gender::Masculine' in tail
+        text = re.search(r'"([^"]*)"', tail)
+        if text is None:
+            words = [('', used[0])]
+        else:
+            stems = text.group(1).split(' ')
+            kinds = (['adj'] if adjective else []) + used if '{}' in text.group(1) else ['fixed']
+            assert len(stems) == len(kinds), head
+            words = [(s.replace('{}', ''), k) for s, k in zip(stems, kinds)]
+        for code in re.findall(r'Currency::(\w+)', head):
+            assert code not in out
+            out[code] = words
+    assert sorted(out) == sorted(CODES)
+    return out
+
+
+def feminine(name):
+    body = function(name)
+    return re.findall(r'Currency::(\w+)', body[:body.index('=> self.feminine()')])
+
+
+PARTS = [(nouns('currencies'), feminine('currency_properties')), (nouns('currency_fraction'), feminine('currency_fraction_properties'))]
+NAMES = open(os.path.join(ROOT, 'bank_money', 'specs', 'Names.antt'), encoding='utf8').read()
+NAMES = re.findall(r'"([^"]*)"', NAMES[NAMES.index('names ='):])
+
+
+def write(path, text):
+    path = os.path.join(ROOT, 'money', path)
+    os.makedirs(os.path.dirname(path), exist_ok=True)
+    open(path, 'w', encoding='utf8').write(text)
+
+
+def lines(table, indent='    '):
+    return '\n'.join('%s(%s) ∷' % (indent, ' ∷ '.join(['"%s"' % w for w in row] + ['[]'])) for row in table) + ' []\n'
+
+
+def tables_spec():
+    out = '''-- The endings of the currency nouns, as uk.rs has them: by grammatical number, then case.
+-- Assumes nothing.
+use Prim.Native.String.{String}
+use mathlib.Core.List.{List, [], _∷_}
+'''
+    for cls, table in zip(CLASSES, TABLES):
+        if not cls[2]:
+            continue
+        if cls[0] == 'adj':
+            out += '\n-- the masculine row of ADJECTIVE_HARD_FLEXIONS_SINGULAR, and ADJECTIVE_HARD_FLEXIONS_PLURAL\n'
+        else:
+            out += '\n' + ('-- as %s\n' % cls[3] if cls[3] else '-- written out whole\n')
+        out += 'unfoldable pub %s : List (List String)\n%s =\n%s' % (cls[2], cls[2], lines(table))
+    write('specs/NounTables.antt', out)
+
+
+def name(words, gender):
+    if len(words) == 1:
+        return '(%s "%s" %s)' % ((gender,) + words[0])
+    return '(%s-pair %s)' % (gender, ' '.join('"%s" %s' % w for w in words))
+
+
+def currencies_spec():
+    out = ''
+    for code in CODES:
+        main, fraction = [name(words[code], 'feminine' if code in feminines else 'masculine') for words, feminines in PARTS]
+        out += '    currency "%s" %s %s ∷\n' % (code, main, fraction)
+    write('specs/Currencies.antt', '''-- The 44 currencies in from_str's order (01, "Ukrainian money"): their nouns are those of `currencies` and `currency_fraction` in uk.rs, their
+-- genders those of `currency_properties` and `currency_fraction_properties`.
+-- Assumes nothing.
+use Prim.Native.Nat.{ℕ}
+use Prim.Native.String.{String}
+use mathlib.Core.List.{List, [], _∷_}
+use lib.ListN.{getD}
+use Rattle.money.specs.Nouns.{Class, hard2, soft2, vowel1, hard1, adj, fixed, hryvnia, kopiyka, Name, masculine, feminine, masculine-pair}
+
+-- a currency: its code, and the names of its main unit and of its fraction
+pub record Currency : Type 0 where
+  pub code : String
+  pub main : Name
+  pub fraction : Name
+
+abbrev currency : String → Name → Name → Currency
+currency code main fraction = record { code = code; main = main; fraction = fraction }
+
+unfoldable pub currencies : List Currency
+currencies =
+%s
+-- what stands for no currency
+abbrev pub noCurrency : Currency
+noCurrency = currency "" (masculine "" hard2) (masculine "" hard2)
+
+-- the currency with this place in the list
+abbrev pub currencyAt : ℕ → Currency
+currencyAt c = getD currencies c noCurrency
+''' % (out.rstrip()[:-1].rstrip() + ' ∷ []\n'))
+
+
+tables_spec()
+currencies_spec()
+
+
+# the code's tables: the rows of the names, and the endings by class, grammatical number and case
+def row(words, gender):
+    adjective = NAMES.index(words[0][0]) if len(words) == 2 else 0
+    assert len(words) == 1 or words[0][1] == 'adj'
+    stem, cls = words[-1]
+    return [adjective, NAMES.index(stem), NUMBER[cls], gender]
+
+
+ROWS = [[row(words[code], int(code in feminines)) for code in CODES] for words, feminines in PARTS]
+ENDINGS = [[NAMES.index(table[n][c]) if table else 0 for n in range(2) for c in range(6)] for table in TABLES]
+
+
+def const(name, table):
+    return '\npub const %s: [[u8; %d]; %d] = [\n%s];\n' % (name, len(table[0]), len(table), ''.join('    [%s],\n' % ', '.join(map(str, r)) for r in table))
+
+
+def rows_source():
+    write('src/rows.rt', '''// The rows of the names of the main units and of the fractions, by currency: the numbers of the adjective's stem, 0 for none, of the noun's
+// stem, of its class of endings, and the gender. The endings by class, then grammatical number and case.
+''' + const('MAIN', ROWS[0]) + const('FRACTION', ROWS[1]) + const('ENDINGS', ENDINGS))
+
+
+def listed(name, table):
+    return '\nabbrev pub %s : List (List ℕ)\n%s =\n%s    []\n' % (name, name, ''.join('    (%s ∷ []) ∷\n' % ' ∷ '.join(map(str, r)) for r in table))
+
+
+def rows_proof():
+    write('proofs/Tables.antt', '''-- The code's tables as lists.
+-- Assumes nothing.
+use Prim.Native.Nat.{ℕ}
+use mathlib.Core.List.{List, [], _∷_}
+''' + listed('mains', ROWS[0]) + listed('fractions', ROWS[1]) + listed('endingIds', ENDINGS))
+
+
+def code_key(code):
+    k = 1
+    for b in reversed(code.encode()):
+        k = k * 256 + b
+    return k
+
+
+def codes_source():
+    write('src/codes.rt', '''// The currency whose code has this number: its place in from_str's order, or 44 for none.
+ghost use mathlib.Core.Path.{_≡_};
+ghost use Rattle.money.specs.Currencies.{currencies};
+ghost use Rattle.money.specs.Rows.{placeByKey};
+
+pub fn place(key: u64) -> usize
+    ensures { λ r. ⌜ r ≡ placeByKey currencies key ⌝ }
+{
+    match key {
+%s        _ => 44,
+    }
+}
+''' % ''.join('        %d => %d, // %s\n' % (code_key(c), i, c) for i, c in enumerate(CODES)))
+
+
+def codes_proof():
+    arms = ['(λ c. found (c .match .keys%d) refl)' % (i + 1) for i in range(len(CODES))] + ['(λ c. sym (none _ currencies (c .match .rest)))']
+    write('proofs/codes/place/Proof.antt', '''-- `money::codes::place` meets its contract: in the arm of a code's number stands its place.
+-- Assumes nothing.
+use mathlib.Core.Path.{refl, sym}
+use Rattle.money.specs.Currencies.{currencies}
+use Rattle.money.specs.Rows.{placeByKey}
+use Rattle.money.proofs.Keys.{found, none}
+use Rattle.money.proofs.codes.place.Statement.{statement}
+use Rattle.money.proofs.codes.place.Tie as tie
+
+pub place-spec : {M : Type 1} → statement M
+unfolding currencies placeByKey
+place-spec =
+    tie.close
+    (tie.spec
+    %s)
+''' % '\n    '.join(arms))
+
+
+rows_source()
+rows_proof()
+codes_source()
+codes_proof()
