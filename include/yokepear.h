@@ -156,6 +156,57 @@ yokepear_answer yokepear_uk_from_currency(uint32_t gender, uint32_t number,
                                           const uint8_t *phrase, size_t phrase_length,
                                           uint8_t *out, size_t out_length);
 
+/* ---- French settings: feminine, reformed, region ------------------------------------------- */
+
+/*
+ * feminine: 0 or 1. reformed: 0 joins words by spaces, 1 by hyphens (the spelling of 1990).
+ * region: the names of 70, 80 and 90.
+ */
+enum { YOKEPEAR_FR = 0, YOKEPEAR_BE = 1, YOKEPEAR_CH = 2 };
+
+/* ---- French cardinals ---------------------------------------------------------------------- */
+
+#define YOKEPEAR_FR_CARDINAL_PHRASE 1601
+#define YOKEPEAR_FR_CARDINAL_TEXT 103
+
+/*
+ * Speaks a number of at most 102 digits: 71 is `soixante et onze`, reformed `soixante-et-onze`;
+ * 81, feminine, CH is `huitante et une`; a negative one begins with `moins`.
+ * Refuses by 1, 3, 5, 7.
+ */
+yokepear_answer yokepear_fr_to_cardinal(uint32_t feminine, uint32_t reformed, uint32_t region,
+                                        const uint8_t *text, size_t text_length,
+                                        uint8_t *out, size_t out_length);
+
+/*
+ * Reads a phrase and writes its number text: exactly the phrases that yokepear_fr_to_cardinal
+ * says in the same settings are read, every other one is refused. Refuses by 1, 6, 7.
+ */
+yokepear_answer yokepear_fr_from_cardinal(uint32_t feminine, uint32_t reformed, uint32_t region,
+                                          const uint8_t *phrase, size_t phrase_length,
+                                          uint8_t *out, size_t out_length);
+
+/* ---- French ordinals ----------------------------------------------------------------------- */
+
+#define YOKEPEAR_FR_ORDINAL_PHRASE 1600
+#define YOKEPEAR_FR_ORDINAL_TEXT 102
+
+/*
+ * Speaks the ordinal of a number of at most 102 digits, which is not negative: 1 is `premier`,
+ * 200 is `deux centsième`. `feminine` has no effect on ordinals. Refuses by 1, 3, 4, 5, 7.
+ */
+yokepear_answer yokepear_fr_to_ordinal(uint32_t feminine, uint32_t reformed, uint32_t region,
+                                       const uint8_t *text, size_t text_length,
+                                       uint8_t *out, size_t out_length);
+
+/*
+ * Reads a phrase and writes its number text: exactly the phrases that yokepear_fr_to_ordinal
+ * says in the same settings are read, every other one is refused. Refuses by 1, 6, 7.
+ */
+yokepear_answer yokepear_fr_from_ordinal(uint32_t feminine, uint32_t reformed, uint32_t region,
+                                         const uint8_t *phrase, size_t phrase_length,
+                                         uint8_t *out, size_t out_length);
+
 /* ---- end of the calls ---------------------------------------------------------------------- */
 
 #ifdef __cplusplus

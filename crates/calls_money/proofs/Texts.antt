@@ -169,8 +169,7 @@ module _ (w h : ℕ) (l : w ≤ limit) (k : h < 100) where
       let f : plain (unsigned (wholeText with-point)) ≡ true = ap (λ (s : List ℕ). plain (unsigned s)) whole-part ∙ formed-unsigned (text w) (signed .formed) in
       let d : digits (hundredthsText with-point) ≡ true = ap digits hundredths-part ∙ fixed-digits 2 h in
       let n : eqb (value (hundredthsText with-point)) 0 ≡ false = ne-eqb (value (hundredthsText with-point)) 0 (λ e. z (sym hundredths-value ∙ e)) in
-      let g : hundredths (hundredthsText with-point) ≡ true = rw (d, n) refl in
-      (
+      let g : hundredths (hundredthsText with-point) ≡ true = rw (d, n) refl in (
         record { formed = money-pointed with-point point f ∙ g; sign = front-sign (text w) (46 ∷ fixed 2 h) (text-some w) (signed .sign); within = rw v l },
         v,
         hundredths-value,

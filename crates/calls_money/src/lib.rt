@@ -2,7 +2,6 @@
 use base::Answer;
 use read_money::Seen;
 use uk::Settings;
-
 ghost use Prim.Native.Nat.{_<_};
 ghost use Rattle.base.specs.Answer.{fitted, replied, Answers, Reads as ReadsAs, ReadsUnless};
 ghost use Rattle.money.specs.Currencies.{currencyAt};

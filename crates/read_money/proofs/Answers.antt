@@ -54,8 +54,7 @@ module _ (i case : ℕ) (hi : i < 44) (hc : case < 6) (s : List ℕ) where
     stated : {n k : ℕ} → SaysMoney (currencyAt i) case s n k → (h : ℕ) → total gs ≡ n → h ≡ k → Stated (total gs) h (said gs h) s
     stated {n} p h e f =
         let a = amount-is (currencyAt i) case (p .derives) in
-        let w = a .2 gs (subst (λ (m : ℕ). Holds m gs) e own) in
-        (
+        let w = a .2 gs (subst (λ (m : ℕ). Holds m gs) e own) in (
           omega (arith, a .0),
           omega (arith, a .1),
           ap (λ (m : ℕ). joined (moneyWords (currencyAt i) case (eqb m 0) gs h)) e ∙ ap (λ (m : ℕ). joined (moneyWords (currencyAt i) case (eqb n 0) gs m)) f ∙ ap joined (sym w) ∙ sym (p .bytes),

@@ -2,7 +2,6 @@
 // of those after it, and compares the words that these have under the settings, planned as the speller plans them, with the bytes; then the
 // same for hundredths alone.
 use uk::Settings;
-
 ghost use mathlib.Core.Path.{_≡_};
 ghost use mathlib.Core.Bool.{true};
 ghost use Prim.Native.Nat.{ℕ, _+_, _*_, _≤_, _<_};
@@ -115,13 +114,7 @@ fn is_phrase(
 }
 
 // Whether s is the phrase of the amount with these groups and hundredths, and that is within the limits.
-fn is_amount(
-    settings: Settings,
-    currency: usize,
-    gs: &[u16; 22],
-    hundredths: u32,
-    s: &[u8],
-) -> bool
+fn is_amount(settings: Settings, currency: usize, gs: &[u16; 22], hundredths: u32, s: &[u8]) -> bool
     requires { ⌜ (settings .case < 6) × (currency < 44) × Groups (now gs) ⌝ }
     ensures { λ r. ⌜ Decides r ((total (now (gs .entry)) ≤ limit) × (hundredths < 100) × (joined (moneyWords (currencyAt currency) (settings .case) (eqb (total (now (gs .entry))) 0) (now (gs .entry)) hundredths) ≡ now (s .entry))) ⌝ }
 {

@@ -1,7 +1,6 @@
 // The plan of an amount of Ukrainian money, from the groups of its whole part, lowest order first, and its hundredths.
 use phrase::push;
 use uk::Settings;
-
 ghost use mathlib.Core.Path.{_≡_};
 ghost use mathlib.Core.Bool.{false};
 ghost use mathlib.Core.List.{[], _∷_, _++_, map};
@@ -111,13 +110,7 @@ fn say_main(
 }
 
 // A count of its fraction, above 0.
-fn say_fraction(
-    case: usize,
-    currency: usize,
-    hundredths: u32,
-    plan: &mut [u32],
-    at: usize,
-) -> usize
+fn say_fraction(case: usize, currency: usize, hundredths: u32, plan: &mut [u32], at: usize) -> usize
     requires { ⌜ (case < 6) × (currency < 44) × (hundredths < 100) × (at + 115 ≤ length (now plan)) ⌝ }
     ensures { λ r. ⌜ Told 115 (now (plan .entry)) at (now (plan .exit)) r (countWords (currencyAt currency .fraction) case false (hundredths ∷ [])) ⌝ }
 {

@@ -7,6 +7,10 @@ use Rattle.calls_uk.proofs.Theorem as uk-cardinals
 use Rattle.money.specs.Currencies.{currencyAt}
 use Rattle.calls_money.specs.MoneyCalls as money
 use Rattle.calls_money.proofs.Theorem as uk-money
+use Rattle.fr.specs.Rules.{InRange}
+use Rattle.fr.specs.declared.French.{French}
+use Rattle.calls_fr.specs.Calls as fr
+use Rattle.calls_fr.proofs.Theorems as fr-theorems
 
 -- Ukrainian cardinals, under every gender and case
 pub ukrainian-cardinals : (gender case : ℕ) → gender < 3 → case < 6 → Readable uk.Admitted (uk.cardinal gender case) (uk.Means gender case)
@@ -15,3 +19,10 @@ ukrainian-cardinals = uk-cardinals.readable
 -- Ukrainian money, in every currency and case
 pub ukrainian-money : (currency case : ℕ) → currency < 44 → case < 6 → Readable money.Admitted (money.moneyPhrase (currencyAt currency) case) (money.Means (currencyAt currency) case)
 ukrainian-money = uk-money.readable
+
+-- French cardinals and ordinals, under every gender, spelling and region
+pub french-cardinals : (F : French) → InRange F → Readable fr.CardinalAdmitted (fr.cardinalOf F) (fr.CardinalMeans F)
+french-cardinals = fr-theorems.cardinals
+
+pub french-ordinals : (F : French) → InRange F → Readable fr.OrdinalAdmitted (fr.ordinalOf F) (fr.OrdinalMeans F)
+french-ordinals = fr-theorems.ordinals

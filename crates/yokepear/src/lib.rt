@@ -2,6 +2,7 @@
 use base::Answer;
 ghost use Rattle.base.specs.Answer.{replied, Answers, ReadsUnless};
 ghost use Rattle.calls_uk.specs.Cardinals.{refusedCardinal, refusedSetting, cardinal, Means};
+ghost use Rattle.calls_fr.specs.Calls.{french, settingsRefusal, cardinalRefusal, ordinalRefusal, firstRefusal, cardinalOf, ordinalOf, CardinalMeans, OrdinalMeans};
 ghost use Rattle.money.specs.Currencies.{currencyAt};
 ghost use Rattle.money.specs.Codes.{placeOf};
 ghost use Rattle.calls_money.specs.MoneyCalls.{refusedCode, refusedAmount, moneyPhrase, Means as MoneyMeans};
@@ -106,4 +107,60 @@ pub extern "C" fn yokepear_uk_from_currency(
     ensures { λ r. ⌜ ReadsUnless (refusedCode gender number case (now (code .entry))) (MoneyMeans (currencyAt (placeOf (now (code .entry)))) case) (now (phrase .entry)) r (now (out .entry)) (now (out .exit)) ⌝ }
 {
     calls_money::from_currency(gender, number, case, code, phrase, out)
+}
+
+// The French cardinal of a number text.
+#[no_mangle]
+pub extern "C" fn yokepear_fr_to_cardinal(
+    feminine: u32,
+    reformed: u32,
+    region: u32,
+    text: &[u8],
+    out: &mut [u8],
+) -> Answer
+    ensures { λ r. ⌜ Answers r (now (out .entry)) (now (out .exit)) (replied (firstRefusal (french feminine reformed region) (cardinalRefusal (now (text .entry)))) (cardinalOf (french feminine reformed region) (now (text .entry))) (now (out .entry))) ⌝ }
+{
+    calls_fr::to_cardinal(feminine, reformed, region, text, out)
+}
+
+// The French ordinal of a number text.
+#[no_mangle]
+pub extern "C" fn yokepear_fr_to_ordinal(
+    feminine: u32,
+    reformed: u32,
+    region: u32,
+    text: &[u8],
+    out: &mut [u8],
+) -> Answer
+    ensures { λ r. ⌜ Answers r (now (out .entry)) (now (out .exit)) (replied (firstRefusal (french feminine reformed region) (ordinalRefusal (now (text .entry)))) (ordinalOf (french feminine reformed region) (now (text .entry))) (now (out .entry))) ⌝ }
+{
+    calls_fr::to_ordinal(feminine, reformed, region, text, out)
+}
+
+// The number text of a French cardinal.
+#[no_mangle]
+pub extern "C" fn yokepear_fr_from_cardinal(
+    feminine: u32,
+    reformed: u32,
+    region: u32,
+    phrase: &[u8],
+    out: &mut [u8],
+) -> Answer
+    ensures { λ r. ⌜ ReadsUnless (settingsRefusal (french feminine reformed region)) (CardinalMeans (french feminine reformed region)) (now (phrase .entry)) r (now (out .entry)) (now (out .exit)) ⌝ }
+{
+    calls_fr::from_cardinal(feminine, reformed, region, phrase, out)
+}
+
+// The number text of a French ordinal.
+#[no_mangle]
+pub extern "C" fn yokepear_fr_from_ordinal(
+    feminine: u32,
+    reformed: u32,
+    region: u32,
+    phrase: &[u8],
+    out: &mut [u8],
+) -> Answer
+    ensures { λ r. ⌜ ReadsUnless (settingsRefusal (french feminine reformed region)) (OrdinalMeans (french feminine reformed region)) (now (phrase .entry)) r (now (out .entry)) (now (out .exit)) ⌝ }
+{
+    calls_fr::from_ordinal(feminine, reformed, region, phrase, out)
 }

@@ -1,0 +1,37 @@
+-- `calls_fr::spell_cardinal` meets its contract.
+-- Assumes nothing.
+use borrow.Author.Needs.{needs}
+use native.Mathlib.Omega.{arith}
+use mathlib.Core.Path.{_≡_}
+use Rattle.figures.specs.Text.{unsigned}
+use Rattle.figures.proofs.Laws.Plain.{plain-digits}
+use Rattle.figures.proofs.Laws.Sign.{formed-unsigned}
+use Rattle.phrase.specs.Phrase.{phrase}
+use Rattle.phrase.specs.Plan.{says}
+use Rattle.calls_fr.specs.Calls.{cardinalOf}
+use Rattle.calls_fr.proofs.Answers.{said-as, planned-cardinal}
+use Rattle.calls_fr.proofs.spell_cardinal.Statement.{statement}
+use Rattle.calls_fr.proofs.spell_cardinal.Tie as tie
+
+phrase-is : (c : tie.After-plan-cardinal) → phrase (says (c .plan-cardinal .last .1 .1 .1 .1 .0) (c .plan-cardinal .result)) ≡ cardinalOf (c .before .before .before .before .before .before .before .before .before .args .f) (c .before .before .before .before .before .before .before .before .before .args .text .now)
+phrase-is c =
+    planned-cardinal (c .before .before .before .before .before .before .before .before .before .args .f) (c .before .before .before .before .before .before .before .before .before .args .text .now) _ _ _ _ _ _ (c .before .before .before .before .before .before .is-zero .ensures) (c .before .before .before .before .before .is-negative .ensures) (c .before .before .before .before .after-sign .ensures) (c .before .before .before .groups34 .ensures) (c .plan-cardinal .ensures .1)
+
+returns : tie.Need-returns
+returns c =
+    said-as (c .before .before .speak .ensures) (phrase-is (c .before .before .before .before .before .before))
+
+pub spell-cardinal-spec : {M : Type 1} → statement M
+spell-cardinal-spec =
+    tie.close
+    (tie.spec
+    (λ c κs. search needs)
+    (λ c κs. search needs)
+    (λ c κs. search needs)
+    (λ c κs. rw (c .after-sign .ensures) (plain-digits (unsigned (c .before .before .before .before .before .args .text .now)) (formed-unsigned (c .before .before .before .before .before .args .text .now) (c .before .before .before .before .before .pre .1))))
+    (λ c. search needs)
+    (λ c κs. search needs)
+    (λ c. search needs)
+    (λ c κs. let p = c .before .before .before .plan-cardinal in (omega (arith, p .ensures .0, p .kept .1 .1 .1 .1 .0), omega (arith, p .ensures .0)))
+    (λ c. search needs)
+    returns)

@@ -1,0 +1,37 @@
+-- `calls_fr::spell_ordinal` meets its contract.
+-- Assumes nothing.
+use borrow.Author.Needs.{needs}
+use native.Mathlib.Omega.{arith}
+use mathlib.Core.Path.{_≡_}
+use Rattle.figures.specs.Text.{unsigned}
+use Rattle.figures.proofs.Laws.Plain.{plain-digits}
+use Rattle.figures.proofs.Laws.Sign.{formed-unsigned}
+use Rattle.phrase.specs.Phrase.{phrase}
+use Rattle.phrase.specs.Plan.{says}
+use Rattle.calls_fr.specs.Calls.{ordinalOf}
+use Rattle.calls_fr.proofs.Theorems.{small}
+use Rattle.calls_fr.proofs.Answers.{said-as, planned-ordinal, text-groups}
+use Rattle.calls_fr.proofs.spell_ordinal.Statement.{statement}
+use Rattle.calls_fr.proofs.spell_ordinal.Tie as tie
+
+phrase-is : (c : tie.After-plan-ordinal) → phrase (says (c .plan-ordinal .last .1 .1 .0) (c .plan-ordinal .result)) ≡ ordinalOf (c .before .before .before .before .before .before .before .args .f) (c .before .before .before .before .before .before .before .args .text .now)
+phrase-is c =
+    let s = c .before .before .before .before .before .before .before in
+    planned-ordinal (s .args .f) (s .args .text .now) _ _ _ _ (small (s .args .text .now) (s .pre .1) (s .pre .2)) (c .before .before .before .before .after-sign .ensures) (c .before .before .before .groups34 .ensures) (c .plan-ordinal .ensures .1)
+
+returns : tie.Need-returns
+returns c =
+    said-as (c .before .before .speak .ensures) (phrase-is (c .before .before .before .before .before .before))
+
+pub spell-ordinal-spec : {M : Type 1} → statement M
+spell-ordinal-spec =
+    tie.close
+    (tie.spec
+    (λ c κs. search needs)
+    (λ c κs. rw (c .after-sign .ensures) (plain-digits (unsigned (c .before .before .before .args .text .now)) (formed-unsigned (c .before .before .before .args .text .now) (c .before .before .before .pre .1))))
+    (λ c. search needs)
+    (λ c κs. (c .before .before .before .before .before .before .pre .0 .2, text-groups _ _ (c .before .before .groups34 .ensures), search needs))
+    (λ c. search needs)
+    (λ c κs. let p = c .before .before .before .plan-ordinal in (omega (arith, p .ensures .0, p .kept .1 .1 .0), omega (arith, p .ensures .0)))
+    (λ c. search needs)
+    returns)

@@ -1,0 +1,62 @@
+-- The French calls: what each refuses, the phrase of a number text, and the number text that a phrase means.
+-- Assumes nothing.
+use Prim.Native.Nat.{ℕ}
+use mathlib.Core.Path.{_≡_}
+use mathlib.Core.Bool.{Bool, true, false, cond, _&&_}
+use mathlib.Core.List.{List}
+use lib.Dec.{eqb, ltb}
+use Rattle.figures.specs.Text.{value, text, negative, unsigned, signedText}
+use Rattle.figures.specs.Groups.{groupsOf}
+use Rattle.figures.specs.Refusals.{judgeDigits, numberOf}
+use Rattle.fr.specs.Cardinal.{cardinalPhrase}
+use Rattle.fr.specs.Ordinal.{ordinalPhrase}
+use Rattle.fr.specs.Grammar.{Says, SaysNth}
+use Rattle.fr.specs.declared.French.{French}
+
+-- the settings of these numbers, and whether each is in its range
+abbrev pub french : ℕ → ℕ → ℕ → French
+french feminine reformed region = record { feminine = feminine; reformed = reformed; region = region }
+
+abbrev pub inRange : French → Bool
+inRange F = ltb (F .feminine) 2 && (ltb (F .reformed) 2 && ltb (F .region) 3)
+
+-- refusal 1 for settings, or 0
+abbrev pub settingsRefusal : French → ℕ
+settingsRefusal F = cond (inRange F) 0 1
+
+-- the refusal of a number text, or 0: at most 102 digits, and an ordinal is not negative
+abbrev pub cardinalRefusal : List ℕ → ℕ
+cardinalRefusal xs = numberOf (judgeDigits true 102 xs)
+
+abbrev pub ordinalRefusal : List ℕ → ℕ
+ordinalRefusal xs = numberOf (judgeDigits false 102 xs)
+
+-- none of the conditions 3 to 5 holds of the text
+abbrev pub CardinalAdmitted : List ℕ → Type 0
+CardinalAdmitted xs = cardinalRefusal xs ≡ 0
+
+abbrev pub OrdinalAdmitted : List ℕ → Type 0
+OrdinalAdmitted xs = ordinalRefusal xs ≡ 0
+
+-- the first refusal of a spelling call, before the buffer's
+abbrev pub firstRefusal : French → ℕ → ℕ
+firstRefusal F refusal = cond (inRange F) refusal 1
+
+-- the phrases of a number text
+unfoldable pub cardinalOf : French → List ℕ → List ℕ
+cardinalOf F xs = cardinalPhrase F (eqb (value (unsigned xs)) 0) (negative xs) (groupsOf 34 (value (unsigned xs)))
+
+unfoldable pub ordinalOf : French → List ℕ → List ℕ
+ordinalOf F xs = ordinalPhrase F (eqb (value (unsigned xs)) 0) (eqb (value (unsigned xs)) 1) (groupsOf 34 (value (unsigned xs)))
+
+-- the phrase s is a sentence whose value is the number text xs
+pub record CardinalMeans (F : French) (s xs : List ℕ) : Type 0 where
+  pub minus : Bool
+  pub magnitude : ℕ
+  pub says : Says F s minus magnitude
+  pub text : xs ≡ signedText minus magnitude
+
+pub record OrdinalMeans (F : French) (s xs : List ℕ) : Type 0 where
+  pub magnitude : ℕ
+  pub says : SaysNth F s magnitude
+  pub text : xs ≡ signedText false magnitude

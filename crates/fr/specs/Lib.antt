@@ -1,0 +1,6 @@
+pub mod FrTables
+pub mod Rules
+pub mod Cardinal
+pub mod Ordinal
+pub mod Grammar
+pub mod Numbered

@@ -1,0 +1,15 @@
+-- The numbers by which the code knows the French words.
+-- Assumes nothing.
+use Prim.Native.Nat.{ℕ, _<_}
+use mathlib.Core.Path.{_≡_}
+use Rattle.base.specs.Join.{Word}
+use Rattle.words.specs.Text.{text}
+
+-- a number of a French word, and not of the ending `ième`
+abbrev pub Known : ℕ → Type 0
+Known id = (256 < id) × (id < 339) × (id ≡ 290 → ⊥)
+
+-- the number of this word
+pub record Numbered (id : ℕ) (w : Word) : Type 0 where
+  pub says : text id ≡ w
+  pub known : Known id

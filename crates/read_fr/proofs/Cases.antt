@@ -1,0 +1,147 @@
+-- The guess, as the code's tests and steps have it.
+-- Assumes nothing.
+use Prim.Native.Nat.{ℕ, zero, suc, _+_, _-_, _*_, _%_, _<_, _≤_}
+use mathlib.Core.Path.{_≡_, refl, sym, ap, _∙_}
+use mathlib.Core.Bool.{Bool, false}
+use mathlib.Core.List.{List, [], _∷_, _++_, append-nil, append-assoc}
+use native.Mathlib.Omega.{arith}
+use borrow.Author.Tests.{eq-eqb, ne-eqb, lt-ltb, le-ltb}
+use lib.Dec.{ltb}
+use lib.ListN.{length, take, drop, set, length-drop, drop-of-length-le}
+use lib.Seq.{drop-drop}
+use Rattle.base.specs.Decides.{Decides}
+use Rattle.tokens.specs.Tokens.{firstWord, afterWord, split, key}
+use Rattle.tokens.proofs.Words.{split-first}
+use Rattle.meanings_fr.specs.Meanings.{meaningOf}
+use Rattle.phrase.specs.Phrase.{phrase}
+use Rattle.phrase.specs.Plan.{pieces, says}
+use Rattle.phrase.proofs.Laws.{from, from-is}
+use Rattle.read_fr.specs.Reading.{meant, meanings, grow, times, one, Group, guess, seems, reads, isMinus, unsigned, guessed}
+use Rattle.read_fr.proofs.Seeming.{seems-scale}
+use Rattle.read_fr.proofs.Guesses.{reads-here, reads-over}
+
+-- one more word
+module _ (c m : ℕ) where
+  pub grow-eighty : c ≡ 4 → m ≡ 20 → 80 ≡ grow c m
+  grow-eighty a b = rw (a, b) refl
+
+  pub grow-four : c ≡ 4 → (m ≡ 20 → ⊥) → (c + m) % 100 ≡ grow c m
+  grow-four a b = rw (eq-eqb c 4 a, ne-eqb m 20 b) refl
+
+  pub grow-other : (c ≡ 4 → ⊥) → (c + m) % 100 ≡ grow c m
+  grow-other a = rw (ne-eqb c 4 a) refl
+
+pub times-one : (c : ℕ) → c ≡ 0 → 1 ≡ times c
+times-one c e = rw e refl
+
+pub times-more : (c : ℕ) → (c ≡ 0 → ⊥) → c % 10 ≡ times c
+times-more c n = rw (ne-eqb c 0 n) refl
+
+pub one-none : (v : ℕ) → v ≡ 0 → 1 ≡ one v
+one-none v e = rw e refl
+
+pub one-some : (v : ℕ) → (v ≡ 0 → ⊥) → v ≡ one v
+one-some v n = rw (ne-eqb v 0 n) refl
+
+module _ (h c m : ℕ) (ms : List ℕ) where
+  pub adds-cent : m ≡ 100 → seems h c (m ∷ ms) ≡ seems (times c) 0 ms
+  unfolding seems
+  adds-cent e = rw e refl
+
+  pub adds-small : m ≤ 100 → (m ≡ 100 → ⊥) → seems h c (m ∷ ms) ≡ seems h (grow c m) ms
+  unfolding seems
+  adds-small l n = rw (le-ltb 100 m l, ne-eqb m 100 n) refl
+
+-- the first word of a text, and of the part of it from a place on
+pub first-means : (s : List ℕ) → 0 < length s → meanings s ≡ meant (firstWord s) ∷ meanings (afterWord s)
+unfolding meanings
+first-means s h = rw (split-first s h) refl
+
+pub no-meanings : (s : List ℕ) → length s ≡ 0 → meanings s ≡ []
+unfolding meanings split
+no-meanings [] h = refl
+no-meanings (b ∷ s) h = absurd (omega arith)
+
+module _ (s : List ℕ) (at : ℕ) where
+  pub step : (k n : ℕ) → at < length s → k ≡ key (firstWord (from at s)) → drop n (from at s) ≡ afterWord (from at s)
+      → meanings (drop at s) ≡ meaningOf k ∷ meanings (drop (at + n) s)
+  step k n h e f =
+      let d : from at s ≡ drop at s = from-is at s in
+      let l : 0 < length (drop at s) = rw (length-drop at s) (omega arith) in
+      let a : afterWord (drop at s) ≡ drop (at + n) s = sym (rw d at f) ∙ drop-drop n at s in
+      first-means (drop at s) l ∙ rw (a, e, d) refl
+
+  pub at-end : length s ≤ at → meanings (drop at s) ≡ []
+  at-end h = no-meanings (drop at s) (rw (length-drop at s) (omega arith))
+
+-- a group ends at a scale word, or with the text
+module _ (s : List ℕ) (h c at : ℕ) (inv : seems 0 0 (meanings s) ≡ seems h c (meanings (drop at s))) where
+  pub group-scale : (m at′ : ℕ) → meanings (drop at s) ≡ m ∷ meanings (drop at′ s) → 100 < m
+      → seems 0 0 (meanings s) ≡ guess (one (100 * h + c)) (m - 1000) (meanings (drop at′ s))
+  group-scale m at′ e l = inv ∙ ap (seems h c) e ∙ seems-scale h c m (meanings (drop at′ s)) l
+
+  pub group-more : (m at′ h′ c′ : ℕ) → meanings (drop at s) ≡ m ∷ meanings (drop at′ s) → ((ms : List ℕ) → seems h c (m ∷ ms) ≡ seems h′ c′ ms)
+      → seems 0 0 (meanings s) ≡ seems h′ c′ (meanings (drop at′ s))
+  group-more m at′ h′ c′ e f = inv ∙ ap (seems h c) e ∙ f (meanings (drop at′ s))
+
+  pub group-end : length s ≤ at → seems 0 0 (meanings s) ≡ guess (100 * h + c) 0 (meanings (drop at s))
+  unfolding seems
+  group-end l = inv ∙ rw (at-end s at l) refl
+
+-- the sign
+pub sign-none : (s : List ℕ) → length s ≡ 0 → (ltb 0 0 ≡ isMinus (meanings s)) × (meanings (drop 0 s) ≡ unsigned (meanings s)) × (0 ≤ length s)
+sign-none s h = rw (no-meanings s h) (refl, refl, omega arith)
+
+module _ (s : List ℕ) (m n : ℕ) (e : meanings s ≡ m ∷ meanings (drop n s)) (l : n ≤ length s) where
+  pub sign-some : m ≡ 2001 → 0 < n → (ltb 0 n ≡ isMinus (meanings s)) × (meanings (drop n s) ≡ unsigned (meanings s)) × (n ≤ length s)
+  sign-some q p =
+      let a : ltb 0 n ≡ isMinus (meanings s) = rw (e, q, lt-ltb 0 n p) refl in
+      let b : meanings (drop n s) ≡ unsigned (meanings s) = rw (e, q) refl in
+      (a, b, l)
+
+  pub sign-other : (m ≡ 2001 → ⊥) → (ltb 0 0 ≡ isMinus (meanings s)) × (meanings (drop 0 s) ≡ unsigned (meanings s)) × (0 ≤ length s)
+  sign-other q =
+      let a : false ≡ isMinus (meanings s) = rw (e, ne-eqb m 2001 q) refl in
+      let b : meanings s ≡ unsigned (meanings s) = rw (← a) refl in
+      (a, b, omega arith)
+
+-- a plan that stands
+pub plan-stands : (b : Bool) (plan p s : List ℕ) (n : ℕ) → Decides b (phrase (pieces (take n plan)) ≡ s) → phrase (says plan n) ≡ p → Decides b (p ≡ s)
+unfolding says
+plan-stands b plan p s n d e = rw e at d
+
+-- the groups, order by order
+pub read-end : (n : ℕ) (g : Group) (xs : List ℕ) → n ≡ 0 → xs ≡ reads n g ++ drop n xs
+unfolding reads
+read-end n g xs e = rw e refl
+
+drop-stored : (xs : List ℕ) (k v : ℕ) → k < length xs → drop k (set xs k v) ≡ v ∷ drop (suc k) xs
+drop-stored [] k v h = absurd (omega arith)
+drop-stored (x ∷ xs) zero v h = refl
+drop-stored (x ∷ xs) (suc k) v h = drop-stored xs k v (omega arith)
+
+module _ (n v o : ℕ) (ms xs ys : List ℕ) (z : n ≡ 0 → ⊥) (h : n ≤ length xs) where
+  above : (gs : List ℕ) (x : ℕ) → ys ≡ gs ++ drop (n - 1) (set xs (n - 1) x) → ys ≡ (gs ++ (x ∷ [])) ++ drop n xs
+  above gs x e =
+      let s : suc (n - 1) ≡ n = omega arith in
+      e ∙ ap (λ (l : List ℕ). gs ++ l) (drop-stored xs (n - 1) x (omega arith) ∙ ap (λ (i : ℕ). x ∷ drop i xs) s) ∙ sym (append-assoc gs (x ∷ []) (drop n xs))
+
+  pub read-here : o ≡ n - 1 → (g : Group) → seems 0 0 ms ≡ g → ys ≡ reads (n - 1) g ++ drop (n - 1) (set xs (n - 1) v) → ys ≡ reads n (guess v o ms) ++ drop n xs
+  read-here e g f r =
+      let s : suc (n - 1) ≡ n = omega arith in
+      let q : reads n (guess v o ms) ≡ reads (n - 1) g ++ (v ∷ []) =
+      ap (λ (i : ℕ). reads i (guess v o ms)) (sym s) ∙ ap (λ (i : ℕ). reads (suc (n - 1)) (guess v i ms)) e ∙ reads-here (n - 1) v ms
+      ∙ ap (λ (x : Group). reads (n - 1) x ++ (v ∷ [])) f in
+      above (reads (n - 1) g) v r ∙ ap (λ (l : List ℕ). l ++ drop n xs) (sym q)
+
+  pub read-over : (o ≡ n - 1 → ⊥) → ys ≡ reads (n - 1) (guess v o ms) ++ drop (n - 1) (set xs (n - 1) 0) → ys ≡ reads n (guess v o ms) ++ drop n xs
+  read-over e r =
+      let s : suc (n - 1) ≡ n = omega arith in
+      let q : reads n (guess v o ms) ≡ reads (n - 1) (guess v o ms) ++ (0 ∷ []) =
+      ap (λ (i : ℕ). reads i (guess v o ms)) (sym s) ∙ reads-over (n - 1) (guess v o ms) e in
+      above (reads (n - 1) (guess v o ms)) 0 r ∙ ap (λ (l : List ℕ). l ++ drop n xs) (sym q)
+
+-- all groups
+pub read-all : (g : Group) (ms xs ys : List ℕ) → length xs ≡ 34 → seems 0 0 ms ≡ g → ys ≡ reads 34 g ++ drop 34 xs → ys ≡ guessed ms
+unfolding guessed
+read-all g ms xs ys l e r = r ∙ rw (drop-of-length-le xs {i = 34} (omega (arith, l)), append-nil (reads 34 g), e) refl

@@ -1,0 +1,5 @@
+pub mod Tells
+pub mod Spoken
+pub mod Cases
+pub mod Tops
+pub mod Endings

@@ -1,0 +1,3 @@
+pub mod Told
+pub mod Link
+pub mod Top
