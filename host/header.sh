@@ -20,10 +20,3 @@ if [ "$declared" != "$exported" ]; then
   exit 1
 fi
 echo "header: C99 and C++ without a warning, $(wc -l <<< "$declared") calls as in the archive"
-
-# Blocks that wait for their calls must fit in, too.
-if compgen -G "$repo/include/pending/*.h.part" > /dev/null; then
-  "$repo/include/pending/assemble.sh" > "$build/all.h"
-  check_header "$build/all.h"
-  echo "header: its waiting blocks compile as well"
-fi
