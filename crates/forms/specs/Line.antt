@@ -1,0 +1,88 @@
+-- The form of a line (01, "The program phrases"): words divided by single spaces, the names of kinds, languages and settings, and texts.
+-- Assumes nothing.
+use Prim.Native.Nat.{ℕ, zero, suc, _-_}
+use Prim.Native.String.{String}
+use mathlib.Core.Bool.{Bool, true, false, cond, not, _&&_}
+use mathlib.Core.List.{List, [], _∷_}
+use lib.Dec.{eqb}
+use lib.ListN.{length, getD, take}
+use Rattle.base.specs.Join.{Word}
+use Rattle.base.specs.Utf8.{utf8}
+use Rattle.forms.specs.declared.Kind.{Kind}
+use Rattle.forms.specs.declared.Kind.the-variants.{Card, Ord, Num, Year, Money, Other}
+use Rattle.forms.specs.declared.Language.{Language}
+use Rattle.forms.specs.declared.Language.the-variants.{Ukrainian, French, Neither}
+
+-- the first word of a line, up to its first space
+unfoldable pub first : List ℕ → Word
+first [] = []
+first (b ∷ s) = cond (eqb b 32) [] (b ∷ first s)
+
+-- what stands behind the first space; nothing where there is none
+unfoldable pub rest : List ℕ → List ℕ
+rest [] = []
+rest (b ∷ s) = cond (eqb b 32) s (rest s)
+
+-- whether two words are the same bytes
+abbrev pub same : Word → Word → Bool
+same [] [] = true
+same [] (c ∷ w) = false
+same (b ∷ v) [] = false
+same (b ∷ v) (c ∷ w) = eqb b c && same v w
+
+-- the place of a word among names, counted from k; behind the last where it is none of them
+abbrev pub placeFrom : ℕ → List String → Word → ℕ
+placeFrom k [] w = k
+placeFrom k (n ∷ ns) w = cond (same (utf8 n) w) k (placeFrom (suc k) ns w)
+
+abbrev pub placeIn : List String → Word → ℕ
+placeIn ns w = placeFrom 0 ns w
+
+-- "Kinds: card, ord, num, year, money"
+unfoldable pub kindOf : Word → Kind
+kindOf w =
+    cond (same (utf8 "(card") w) Card
+    (cond (same (utf8 "(ord") w) Ord
+    (cond (same (utf8 "(num") w) Num
+    (cond (same (utf8 "(year") w) Year
+    (cond (same (utf8 "(money") w) Money Other))))
+
+-- the language, which opens the settings
+unfoldable pub languageOf : Word → Language
+languageOf w = cond (same (utf8 "(uk") w) Ukrainian (cond (same (utf8 "(fr") w) French Neither)
+
+-- "`(uk m sing nom)` with m f n, sing plur, nom gen dat acc ins loc": 01's setting numbers, out of range for any other word
+unfoldable pub genderOf : Word → ℕ
+genderOf w = placeIn ("m" ∷ "f" ∷ "n" ∷ []) w
+
+unfoldable pub numberOf : Word → ℕ
+numberOf w = placeIn ("sing" ∷ "plur" ∷ []) w
+
+unfoldable pub caseOf : Word → ℕ
+caseOf w = placeIn ("nom)" ∷ "gen)" ∷ "dat)" ∷ "acc)" ∷ "ins)" ∷ "loc)" ∷ []) w
+
+-- "`(fr m old FR)` with m f, old new", and the regions FR BE CH
+unfoldable pub feminineOf : Word → ℕ
+feminineOf w = placeIn ("m" ∷ "f" ∷ []) w
+
+unfoldable pub reformedOf : Word → ℕ
+reformedOf w = placeIn ("old" ∷ "new" ∷ []) w
+
+unfoldable pub regionOf : Word → ℕ
+regionOf w = placeIn ("FR)" ∷ "BE)" ∷ "CH)" ∷ []) w
+
+-- no space and no bracket
+abbrev pub free : List ℕ → Bool
+free [] = true
+free (b ∷ s) = (not (eqb b 32) && (not (eqb b 40) && not (eqb b 41))) && free s
+
+-- "runs of one or more bytes other than space and bracket"
+abbrev pub run : List ℕ → Bool
+run s = not (eqb (length s) 0) && free s
+
+-- what stands before the last byte, and whether that is a run and the last byte the form's closing bracket
+abbrev pub inner : List ℕ → List ℕ
+inner s = take (length s - 1) s
+
+abbrev pub closed : List ℕ → Bool
+closed s = run (inner s) && eqb (getD s (length s - 1) 0) 41
