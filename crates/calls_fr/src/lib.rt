@@ -26,6 +26,7 @@ fn in_range(f: French) -> bool
 fn spell_cardinal(f: French, text: &[u8], out: &mut [u8]) -> Answer
     requires { ⌜ InRange f × (wellFormed (now text) ≡ true) × (length (unsigned (now text)) ≤ 102) ⌝ }
     ensures { λ r. ⌜ Answers r (now (out .entry)) (now (out .exit)) (fitted (now (out .entry)) (cardinalOf f (now (text .entry)))) ⌝ }
+    ensures { λ r. ⌜ r .length ≤ 12320 ⌝ }
 {
     let zero = figures::is_zero(text);
     let minus = figures::is_negative(text);
@@ -39,6 +40,7 @@ fn spell_cardinal(f: French, text: &[u8], out: &mut [u8]) -> Answer
 fn spell_ordinal(f: French, text: &[u8], out: &mut [u8]) -> Answer
     requires { ⌜ InRange f × (wellFormed (now text) ≡ true) × (length (unsigned (now text)) ≤ 102) ⌝ }
     ensures { λ r. ⌜ Answers r (now (out .entry)) (now (out .exit)) (fitted (now (out .entry)) (ordinalOf f (now (text .entry)))) ⌝ }
+    ensures { λ r. ⌜ r .length ≤ 12320 ⌝ }
 {
     let gs = figures::groups::groups34(figures::after_sign(text));
     let mut plan = [0u32; 308];
@@ -82,6 +84,7 @@ fn read_ordinal(f: French, said: &[u8], out: &mut [u8]) -> Answer
 // The cardinal of a number text.
 pub fn to_cardinal(feminine: u32, reformed: u32, region: u32, text: &[u8], out: &mut [u8]) -> Answer
     ensures { λ r. ⌜ Answers r (now (out .entry)) (now (out .exit)) (replied (firstRefusal (french feminine reformed region) (cardinalRefusal (now (text .entry)))) (cardinalOf (french feminine reformed region) (now (text .entry))) (now (out .entry))) ⌝ }
+    ensures { λ r. ⌜ r .length ≤ 12320 ⌝ }
 {
     let f = French {
         feminine,
@@ -109,6 +112,7 @@ pub fn to_cardinal(feminine: u32, reformed: u32, region: u32, text: &[u8], out: 
 // The ordinal of a number text.
 pub fn to_ordinal(feminine: u32, reformed: u32, region: u32, text: &[u8], out: &mut [u8]) -> Answer
     ensures { λ r. ⌜ Answers r (now (out .entry)) (now (out .exit)) (replied (firstRefusal (french feminine reformed region) (ordinalRefusal (now (text .entry)))) (ordinalOf (french feminine reformed region) (now (text .entry))) (now (out .entry))) ⌝ }
+    ensures { λ r. ⌜ r .length ≤ 12320 ⌝ }
 {
     let f = French {
         feminine,

@@ -2,7 +2,7 @@
 use base::Answer;
 use read_money::Seen;
 use uk::Settings;
-ghost use Prim.Native.Nat.{_<_};
+ghost use Prim.Native.Nat.{_≤_, _<_};
 ghost use Rattle.base.specs.Answer.{fitted, replied, Answers, Reads as ReadsAs, ReadsUnless};
 ghost use Rattle.money.specs.Currencies.{currencyAt};
 ghost use Rattle.money.specs.Codes.{placeOf};
@@ -12,6 +12,7 @@ ghost use Rattle.calls_money.specs.MoneyCalls.{Admitted, refusedCode, re
 fn spell(settings: Settings, currency: usize, text: &[u8], out: &mut [u8]) -> Answer
     requires { ⌜ (settings .case < 6) × (currency < 44) × Admitted (now text) ⌝ }
     ensures { λ r. ⌜ Answers r (now (out .entry)) (now (out .exit)) (fitted (now (out .entry)) (moneyPhrase (currencyAt currency) (settings .case) (now (text .entry)))) ⌝ }
+    ensures { λ r. ⌜ r .length ≤ 12320 ⌝ }
 {
     let whole = figures::money::whole_part(text);
     let zero = figures::is_zero(whole);
@@ -48,6 +49,7 @@ pub fn to_currency(
     out: &mut [u8],
 ) -> Answer
     ensures { λ r. ⌜ Answers r (now (out .entry)) (now (out .exit)) (replied (refusedAmount gender number case (now (code .entry)) (now (text .entry))) (moneyPhrase (currencyAt (placeOf (now (code .entry)))) case (now (text .entry))) (now (out .entry))) ⌝ }
+    ensures { λ r. ⌜ r .length ≤ 12320 ⌝ }
 {
     if uk::in_range(gender, number, case) {
         let currency = money::code_of(code);

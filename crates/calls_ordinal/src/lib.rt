@@ -44,6 +44,7 @@ fn refuse_digit_ordinal(gender: u32, number: u32, case: u32, text: &[u8]) -> u32
 fn say_ordinal(settings: Settings, text: &[u8], out: &mut [u8]) -> Answer
     requires { ⌜ ((settings .gender < 3) × (settings .number < 2) × (settings .case < 6)) × (digits (now text) ≡ true) ⌝ }
     ensures { λ r. ⌜ Answers r (now (out .entry)) (now (out .exit)) (fitted (now (out .entry)) (ordinalPhrase (settings .gender) (settings .number) (settings .case) (now (text .entry)))) ⌝ }
+    ensures { λ r. ⌜ r .length ≤ 12320 ⌝ }
 {
     let gs = figures::groups::groups22(text);
     let mut plan = [0u32; 116];
@@ -55,6 +56,7 @@ fn say_ordinal(settings: Settings, text: &[u8], out: &mut [u8]) -> Answer
 fn say_digit_ordinal(settings: Settings, text: &[u8], out: &mut [u8]) -> Answer
     requires { ⌜ ((settings .gender < 3) × (settings .number < 2) × (settings .case < 6)) × (digits (now text) ≡ true) × (0 < length (now text)) × (length (now text) ≤ 39) ⌝ }
     ensures { λ r. ⌜ Answers r (now (out .entry)) (now (out .exit)) (fitted (now (out .entry)) (digitOrdinal (settings .gender) (settings .number) (settings .case) (now (text .entry)))) ⌝ }
+    ensures { λ r. ⌜ r .length ≤ 12320 ⌝ }
 {
     let mut plan = [0u32; 40];
     let n = spell_ordinal::plan_digit_ordinal(settings, text, &mut plan);
@@ -65,6 +67,7 @@ fn say_digit_ordinal(settings: Settings, text: &[u8], out: &mut [u8]) -> Answer
 fn say_year(settings: Settings, year: i64, out: &mut [u8]) -> Answer
     requires { ⌜ (settings .gender < 3) × (settings .number < 2) × (settings .case < 6) ⌝ }
     ensures { λ r. ⌜ Answers r (now (out .entry)) (now (out .exit)) (fitted (now (out .entry)) (yearPhrase (settings .number) (settings .case) year)) ⌝ }
+    ensures { λ r. ⌜ r .length ≤ 12320 ⌝ }
 {
     let mut gs = [0u16; 22];
     figures::groups::groups_from(figures::year::magnitude(year), &mut gs);
@@ -76,6 +79,7 @@ fn say_year(settings: Settings, year: i64, out: &mut [u8]) -> Answer
 // The ordinal of a number text.
 pub fn to_ordinal(gender: u32, number: u32, case: u32, text: &[u8], out: &mut [u8]) -> Answer
     ensures { λ r. ⌜ Answers r (now (out .entry)) (now (out .exit)) (replied (unlessSettings gender number case (ordinalText (now (text .entry)))) (ordinalPhrase gender number case (now (text .entry))) (now (out .entry))) ⌝ }
+    ensures { λ r. ⌜ r .length ≤ 12320 ⌝ }
 {
     let n = refuse_ordinal(gender, number, case, text);
     if n == 0 {
@@ -91,6 +95,7 @@ pub fn to_ordinal(gender: u32, number: u32, case: u32, text: &[u8], out: &mut [u
 // The digit ordinal of a number text.
 pub fn to_ordinal_num(gender: u32, number: u32, case: u32, text: &[u8], out: &mut [u8]) -> Answer
     ensures { λ r. ⌜ Answers r (now (out .entry)) (now (out .exit)) (replied (unlessSettings gender number case (digitOrdinalText (now (text .entry)))) (digitOrdinal gender number case (now (text .entry))) (now (out .entry))) ⌝ }
+    ensures { λ r. ⌜ r .length ≤ 12320 ⌝ }
 {
     let n = refuse_digit_ordinal(gender, number, case, text);
     if n == 0 {
@@ -106,6 +111,7 @@ pub fn to_ordinal_num(gender: u32, number: u32, case: u32, text: &[u8], out: &mu
 // The phrase of a year.
 pub fn to_year(gender: u32, number: u32, case: u32, year: i64, out: &mut [u8]) -> Answer
     ensures { λ r. ⌜ Answers r (now (out .entry)) (now (out .exit)) (replied (unlessSettings gender number case 0) (yearPhrase number case year) (now (out .entry))) ⌝ }
+    ensures { λ r. ⌜ r .length ≤ 12320 ⌝ }
 {
     if uk::in_range(gender, number, case) {
         say_year(uk::settings_of(gender, number, case), year, out)

@@ -25,6 +25,7 @@ fn refuse(gender: u32, number: u32, case: u32, text: &[u8]) -> u32
 fn spell(settings: Settings, text: &[u8], out: &mut [u8]) -> Answer
     requires { ⌜ (settings .gender < 3) × (settings .case < 6) × (wellFormed (now text) ≡ true) × (length (unsigned (now text)) ≤ 66) ⌝ }
     ensures { λ r. ⌜ Answers r (now (out .entry)) (now (out .exit)) (fitted (now (out .entry)) (cardinal (settings .gender) (settings .case) (now (text .entry)))) ⌝ }
+    ensures { λ r. ⌜ r .length ≤ 12320 ⌝ }
 {
     let zero = figures::is_zero(text);
     let minus = figures::is_negative(text);
@@ -54,6 +55,7 @@ fn read(settings: Settings, said: &[u8], out: &mut [u8]) -> Answer
 // The cardinal of a number text.
 pub fn to_cardinal(gender: u32, number: u32, case: u32, text: &[u8], out: &mut [u8]) -> Answer
     ensures { λ r. ⌜ Answers r (now (out .entry)) (now (out .exit)) (replied (refusedCardinal gender number case (now (text .entry))) (cardinal gender case (now (text .entry))) (now (out .entry))) ⌝ }
+    ensures { λ r. ⌜ r .length ≤ 12320 ⌝ }
 {
     let n = refuse(gender, number, case, text);
     if n == 0 {

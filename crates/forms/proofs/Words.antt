@@ -8,8 +8,8 @@ use native.Mathlib.Omega.{arith}
 use native.Mathlib.Numerals.{add-one}
 use borrow.Author.Tests.{eq-eqb, ne-eqb}
 use lib.Dec.{eqb}
-use lib.ListN.{length, getD, take, drop, drop-of-length-le}
-use lib.Seq.{drop-cons, take-length}
+use lib.ListN.{length, getD, take, drop, drop-of-length-le, length-drop}
+use lib.Seq.{drop-cons, drop-drop, take-all, take-length}
 use Rattle.bytes.specs.Bytes.{indexOf, indexAfter, slice}
 use Rattle.base.specs.Front.{begins}
 use Rattle.forms.specs.Line.{first, rest, same, free, run, closed, inner}
@@ -52,6 +52,23 @@ module _ (s : List ℕ) (r : ℕ) (e : r ≡ 0 + indexOf 32 (slice 0 (length s) 
 
   pub rest-none : length s ≤ r → drop (length s) s ≡ rest s
   rest-none h = drop-of-length-le s {i = length s} (omega arith) ∙ sym (drop-of-length-le s {i = r + 1} (omega arith)) ∙ rest-at
+
+-- the next word of a line of which t is left behind p
+module _ (s t : List ℕ) (p e n : ℕ) (h : p ≤ length s) (d : drop p s ≡ t) where
+  abbrev part : List ℕ
+  part = take (length s - p) (drop p s)
+
+  part-is : part ≡ t
+  part-is = take-all (length s - p) (drop p s) (rw length-drop (omega arith)) ∙ d
+
+  pub word-at : take e part ≡ first part → take ((p + e) - p) (drop p s) ≡ first t
+  word-at c = let k : (p + e) - p ≡ e = omega arith in rw (k, d) (rw part-is at c)
+
+  pub left-at : drop n part ≡ rest part → drop (p + n) s ≡ rest t
+  left-at c = let l : drop n t ≡ rest t = rw part-is at c in sym (drop-drop n p s) ∙ ap (drop n) d ∙ l
+
+  pub near : n ≤ length part → p + n ≤ length s
+  near c = let k : n ≤ length (drop p s) = rw (take-all (length s - p) (drop p s) (rw length-drop (omega arith))) at c in omega (arith, rw length-drop at k)
 
 -- a name is known by its length and its front
 pub same-front : (w s : List ℕ) → length s ≡ length w → begins w s ≡ same w s

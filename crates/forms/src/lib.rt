@@ -1,6 +1,7 @@
 // The form of a line: its words, the names that they are, and runs.
 pub mod names;
 pub mod runs;
+pub mod settings;
 
 ghost use mathlib.Core.Path.{_≡_};
 ghost use Prim.Native.Nat.{_≤_};

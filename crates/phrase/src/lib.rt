@@ -48,7 +48,7 @@ fn following_len(plan: &[u32]) -> usize
 // The length of a phrase.
 pub fn len(plan: &[u32]) -> usize
     requires { ⌜ length (now plan) ≤ 1000 ⌝ }
-    ensures { λ r. ⌜ r ≡ length (phraseOf (pieces (now (plan .entry)))) ⌝ }
+    ensures { λ r. ⌜ (r ≡ length (phraseOf (pieces (now (plan .entry))))) × (r ≤ 40 * length (now (plan .entry))) ⌝ }
 {
     if plan.len() == 0 {
         return 0;
@@ -103,6 +103,7 @@ pub fn put(plan: &[u32], out: &mut [u8]) -> usize
 pub fn speak(plan: &[u32], n: usize, out: &mut [u8]) -> Answer
     requires { ⌜ (n ≤ length (now plan)) × (n ≤ 1000) ⌝ }
     ensures { λ r. ⌜ Answers r (now (out .entry)) (now (out .exit)) (fitted (now (out .entry)) (phraseOf (says (now (plan .entry)) n))) ⌝ }
+    ensures { λ r. ⌜ r .length ≤ 40 * n ⌝ }
 {
     let size = len(&plan[..n]);
     if out.len() < size {

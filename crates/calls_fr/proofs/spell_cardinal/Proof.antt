@@ -19,7 +19,7 @@ phrase-is c =
 
 returns : tie.Need-returns
 returns c =
-    said-as (c .before .before .speak .ensures) (phrase-is (c .before .before .before .before .before .before))
+    (said-as (c .before .before .speak .ensures .0) (phrase-is (c .before .before .before .before .before .before)), omega (arith, c .before .before .speak .ensures .1, c .before .before .before .before .before .before .plan-cardinal .ensures .0))
 
 pub spell-cardinal-spec : {M : Type 1} → statement M
 spell-cardinal-spec =

@@ -39,7 +39,7 @@ returns c =
     p .ensures .1
     ∙ planned (currencyAt (a .currency)) (a .settings .case) (a .text .now) (c .before .before .before .before .before .before .before .before .before .before .before .before .before .before .whole-part .result .now) (c .before .before .before .before .before .before .before .before .before .before .before .before .after-sign .result .now) (c .before .before .before .before .before .before .before .before .before .before .hundredths-part .result .now) (c .before .before .before .before .before .before .before .before .before .before .before .groups22 .result) (c .before .before .before .before .before .before .before .before .before .before .before .before .before .is-zero .result) (c .before .before .before .before .before .before .before .before .before .value-of .result)
     (c .before .before .before .before .before .before .before .before .before .before .before .before .before .before .whole-part .ensures) (c .before .before .before .before .before .before .before .before .before .before .before .before .before .is-zero .ensures) (c .before .before .before .before .before .before .before .before .before .before .before .before .after-sign .ensures) (c .before .before .before .before .before .before .before .before .before .before .before .groups22 .ensures) (c .before .before .before .before .before .before .before .before .before .before .hundredths-part .ensures) (c .before .before .before .before .before .before .before .before .before .value-of .ensures) in
-    subst (λ (b : List ℕ). Answers (c .before .before .speak .result) (a .out .now) (c .before .before .speak .last .1 .1 .0) (fitted (a .out .now) b)) e (c .before .before .speak .ensures)
+    (subst (λ (b : List ℕ). Answers (c .before .before .speak .result) (a .out .now) (c .before .before .speak .last .1 .1 .0) (fitted (a .out .now) b)) e (c .before .before .speak .ensures .0), omega (arith, c .before .before .speak .ensures .1, p .ensures .0))
 
 pub spell-spec : {M : Type 1} → statement M
 spell-spec =

@@ -25,7 +25,7 @@ returns c =
     let s = sym (c .before .before .before .before .before .before .before .before .before .before .before .in-range .ensures) ∙ c .before .before .before .before .before .before .before .before .before .before .if1 .taken in
     let k = c .before .before .before .before .before .before .before .before .before .code-of .ensures in
     let n = text-next (a .gender) (a .number) (a .case) (a .code .now) s (rw k at (c .before .before .before .before .before .before .before .before .if2 .taken)) (a .text .now) ∙ sym (c .before .before .before .before .before .before .number-of .ensures ∙ ap numberOf (c .before .before .before .before .before .before .before .judge-money .ensures)) ∙ c .before .before .before .before .before .if3 .taken in
-    rw (n, ← k, ← c .before .before .before .before .settings-of .ensures .2) (c .before .before .spell .ensures)
+    (rw (n, ← k, ← c .before .before .before .before .settings-of .ensures .2) (c .before .before .spell .ensures .0), c .before .before .spell .ensures .1)
 
 returns-2 : tie.Need-returns-2
 returns-2 c =
@@ -33,7 +33,7 @@ returns-2 c =
     let s = sym (c .before .before .before .before .before .before .in-range .ensures) ∙ c .before .before .before .before .before .if1 .taken in
     let k = c .before .before .before .before .code-of .ensures in
     let n = c .before .number-of .ensures ∙ ap numberOf (c .before .before .judge-money .ensures) ∙ sym (text-next (a .gender) (a .number) (a .case) (a .code .now) s (rw k at (c .before .before .before .if2 .taken)) (a .text .now)) in
-    refusal-some (a .out .now) _ _ _ n (c .if3 .left)
+    (refusal-some (a .out .now) _ _ _ n (c .if3 .left), omega arith)
 
 pub to-currency-spec : {M : Type 1} → statement M
 to-currency-spec =
@@ -41,7 +41,7 @@ to-currency-spec =
     (tie.spec (λ c κs. search needs) (λ c κs. search needs) (λ c κs. search needs) (λ c κs. search needs) (λ c κs. search needs) spell-requires (λ c. search needs) returns returns-2
     (λ c.
     let a = c .before .before .before .before .before .before .before .args in
-    rw (no-code (a .gender) (a .number) (a .case) (a .code .now) (sym (c .before .before .before .in-range .ensures) ∙ c .before .before .if1 .taken) (rw (c .before .code-of .ensures) at (c .if2 .left)) (a .text .now)) (refusal (a .out .now) 2))
+    (rw (no-code (a .gender) (a .number) (a .case) (a .code .now) (sym (c .before .before .before .in-range .ensures) ∙ c .before .before .if1 .taken) (rw (c .before .code-of .ensures) at (c .if2 .left)) (a .text .now)) (refusal (a .out .now) 2), omega arith))
     (λ c.
     let a = c .before .before .before .before .before .args in
-    rw (settings-first (a .gender) (a .number) (a .case) (a .code .now) (sym (c .before .in-range .ensures) ∙ c .if1 .left) (a .text .now)) (refusal (a .out .now) 1)))
+    (rw (settings-first (a .gender) (a .number) (a .case) (a .code .now) (sym (c .before .in-range .ensures) ∙ c .if1 .left) (a .text .now)) (refusal (a .out .now) 1), omega arith)))

@@ -15,7 +15,7 @@ returns c =
     let a = c .before .before .before .before .before .before .before .before .before .before .before .before .args in
     let p = c .before .before .before .before .before .before .plan-ordinal in
     let g = c .before .before .before .before .before .before .before .before .before .groups22 in
-    heard _ _ _ (p .ensures .1 ∙ ordinal-said (a .settings .gender) (a .settings .number) (a .settings .case) (g .result) (now (a .text)) (g .ensures)) (c .before .before .speak .ensures)
+    (heard _ _ _ (p .ensures .1 ∙ ordinal-said (a .settings .gender) (a .settings .number) (a .settings .case) (g .result) (now (a .text)) (g .ensures)) (c .before .before .speak .ensures .0), omega (arith, c .before .before .speak .ensures .1, p .ensures .0))
 
 pub say-ordinal-spec : {M : Type 1} → statement M
 say-ordinal-spec =

@@ -22,7 +22,7 @@ returns : tie.Need-returns
 returns c =
     let a = c .before .before .before .before .before .before .before .before .before .before .before .before .before .before .before .args in
     let p = c .before .before .before .before .before .before .plan-year in
-    heard _ _ _ (p .ensures .1 ∙ year-said (a .settings .number) (a .settings .case) (c .before .before .before .before .before .before .before .before .before .is-early .result) _ (a .year) (c .before .before .before .before .before .before .before .before .before .is-early .ensures ∙ ap early (toZ-ofZ (c .before .before .before .before .before .before .before .before .before .before .before .before .before .before .before .fits .year))) (groups-are (c .before .before .before .before .before .before .before .before .before .before))) (c .before .before .speak .ensures)
+    (heard _ _ _ (p .ensures .1 ∙ year-said (a .settings .number) (a .settings .case) (c .before .before .before .before .before .before .before .before .before .is-early .result) _ (a .year) (c .before .before .before .before .before .before .before .before .before .is-early .ensures ∙ ap early (toZ-ofZ (c .before .before .before .before .before .before .before .before .before .before .before .before .before .before .before .fits .year))) (groups-are (c .before .before .before .before .before .before .before .before .before .before))) (c .before .before .speak .ensures .0), omega (arith, c .before .before .speak .ensures .1, p .ensures .0))
 
 pub say-year-spec : {M : Type 1} → statement M
 say-year-spec =

@@ -21,10 +21,10 @@ say-digit-ordinal-requires c κs =
 returns : tie.Need-returns
 returns c =
     let q = c .before .before .before .before .settings-of .ensures in
-    said _ _ _ _ _ (sym (c .before .before .before .before .before .before .refuse-digit-ordinal .ensures) ∙ c .before .before .before .before .before .if1 .taken) (rw (q .0, q .1, q .2) at (c .before .before .say-digit-ordinal .ensures))
+    (said _ _ _ _ _ (sym (c .before .before .before .before .before .before .refuse-digit-ordinal .ensures) ∙ c .before .before .before .before .before .if1 .taken) (rw (q .0, q .1, q .2) at (c .before .before .say-digit-ordinal .ensures .0)), c .before .before .say-digit-ordinal .ensures .1)
 
 returns-2 : tie.Need-returns-2
-returns-2 c = refusal _ _ _ _ _ (refl, refl) (c .before .refuse-digit-ordinal .ensures) (c .if1 .left)
+returns-2 c = (refusal _ _ _ _ _ (refl, refl) (c .before .refuse-digit-ordinal .ensures) (c .if1 .left), omega arith)
 
 pub to-ordinal-num-spec : {M : Type 1} → statement M
 to-ordinal-num-spec =

@@ -19,13 +19,15 @@ say-year-requires c κs =
     (omega (arith, q .0, z .0), omega (arith, q .1, z .1), omega (arith, q .2, z .2))
 
 returns : tie.Need-returns
-returns c = let q = c .before .before .before .before .settings-of .ensures in rw (sym (c .before .before .before .before .before .before .in-range .ensures) ∙ c .before .before .before .before .before .if1 .taken) (rw (q .1, q .2, toZ-ofZ (c .before .before .before .before .before .before .before .before .fits .year)) at (c .before .before .say-year .ensures))
+returns c = let q = c .before .before .before .before .settings-of .ensures in (rw (sym (c .before .before .before .before .before .before .in-range .ensures) ∙ c .before .before .before .before .before .if1 .taken) (rw (q .1, q .2, toZ-ofZ (c .before .before .before .before .before .before .before .before .fits .year)) at (c .before .before .say-year .ensures .0)), c .before .before .say-year .ensures .1)
 
 returns-2 : tie.Need-returns-2
 returns-2 c =
-    let a = c .before .before .before .args in
-    rw (sym (c .before .in-range .ensures) ∙ c .if1 .left)
-    (refusal _ _ (yearPhrase (a .number) (a .case) (a .year)) 1 1 (refl, refl) refl (λ e. omega arith))
+    let a = c .before .before .before .args in (
+      rw (sym (c .before .in-range .ensures) ∙ c .if1 .left)
+          (refusal _ _ (yearPhrase (a .number) (a .case) (a .year)) 1 1 (refl, refl) refl (λ e. omega arith)),
+      omega arith,
+    )
 
 pub to-year-spec : {M : Type 1} → statement M
 to-year-spec =

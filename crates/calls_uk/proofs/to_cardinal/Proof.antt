@@ -1,6 +1,7 @@
 -- `calls_uk::to_cardinal` meets its contract.
 -- Assumes nothing.
 use mathlib.Core.Path.{_≡_, sym, _∙_}
+use native.Mathlib.Omega.{arith}
 use borrow.Author.Needs.{needs}
 use Rattle.calls_uk.specs.Cardinals.{refusedCardinal}
 use Rattle.calls_uk.proofs.Admitting.{to-admitted}
@@ -20,10 +21,10 @@ returns c =
     let a = c .before .before .before .before .before .before .before .before .before .args in
     let e = c .before .before .before .before .settings-of .ensures in
     let z : refusedCardinal (a .gender) (a .number) (a .case) (a .text .now) ≡ 0 = sym (c .before .before .before .before .before .before .refuse .ensures) ∙ c .before .before .before .before .before .if1 .taken in
-    rw z (rw (e .0, e .2) at (c .before .before .spell .ensures))
+    (rw z (rw (e .0, e .2) at (c .before .before .spell .ensures .0)), c .before .before .spell .ensures .1)
 
 pub to-cardinal-spec : {M : Type 1} → statement M
 to-cardinal-spec =
     tie.close
     (tie.spec (λ c κs. search needs) (λ c κs. search needs) spell-requires (λ c. search needs) returns
-    (λ c. refusal-some (c .before .before .before .before .args .out .now) _ _ _ (c .before .refuse .ensures) (c .if1 .left)))
+    (λ c. (refusal-some (c .before .before .before .before .args .out .now) _ _ _ (c .before .refuse .ensures) (c .if1 .left), omega arith)))
