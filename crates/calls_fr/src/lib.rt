@@ -12,7 +12,7 @@ ghost use Rattle.fr.specs.Rules.{InRange};
 ghost use Rattle.calls_fr.specs.Calls.{french, inRange, settingsRefusal, cardinalRefusal, ordinalRefusal, firstRefusal, cardinalOf, ordinalOf, CardinalMeans, OrdinalMeans};
 
 // Whether the setting numbers are in their ranges.
-fn in_range(f: French) -> bool
+pub fn in_range(f: French) -> bool
     ensures { λ r. ⌜ r ≡ inRange f ⌝ }
 {
     if f.feminine < 2 {

@@ -38,4 +38,4 @@ spell-spec =
     (λ c. search needs)
     (λ c κs. let p = c .before .before .before .plan-cardinal in (omega (arith, p .ensures .0, p .kept .1 .1 .1 .1 .0), omega (arith, p .ensures .0)))
     (λ c. search needs)
-    (λ c. let a = c .before .before .before .before .before .before .before .before .before .before .before .before .before .before .before .args in (subst (λ (b : List ℕ). Answers (c .before .before .speak .result) (a .out .now) (c .before .before .speak .last .1 .1 .0) (fitted (a .out .now) b)) (phrase-is (c .before .before .before .before .before .before)) (c .before .before .speak .ensures .0), omega (arith, c .before .before .speak .ensures .1, c .before .before .before .before .before .before .plan-cardinal .ensures .0)))
+    (λ c. let a = c .before .before .before .before .before .before .before .before .before .before .before .before .before .before .before .args in (subst (λ (b : List ℕ). Answers (c .before .before .speak .result) (a .out .now) (c .before .before .speak .last .1 .1 .0) (fitted (a .out .now) b)) (phrase-is (c .before .before .before .before .before .before)) (c .before .before .speak .ensures .0), omega (arith, c .before .before .speak .ensures .1, c .before .before .before .before .before .before .plan-cardinal .ensures .0))))

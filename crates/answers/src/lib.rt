@@ -1,0 +1,44 @@
+// What the program writes to a line.
+mod french;
+mod ukrainian;
+mod write;
+
+use forms::Kind;
+use forms::Language;
+use write::bad;
+ghost use Prim.Native.Nat.{_≤_};
+ghost use lib.ListN.{length};
+ghost use Rattle.answers.specs.Answers.{settled, answerLine};
+ghost use Rattle.answers.specs.Wrote.{Wrote};
+
+// A form of which the settings and what follows them are left.
+fn settle(kind: Kind, language: Language, s: &[u8], out: &mut [u8]) -> usize
+    requires { ⌜ 12321 ≤ length (now out) ⌝ }
+    ensures { λ r. ⌜ Wrote (settled kind language (now (s .entry))) r (now (out .entry)) (now (out .exit)) ⌝ }
+{
+    match language {
+        Language::Ukrainian => ukrainian::settle(kind, s, out),
+        Language::French => french::settle(kind, s, out),
+        Language::Neither => bad(out),
+    }
+}
+
+// A line's answer, over the front of out.
+pub fn answer_line(s: &[u8], out: &mut [u8]) -> usize
+    requires { ⌜ 12321 ≤ length (now out) ⌝ }
+    ensures { λ r. ⌜ Wrote (answerLine (now (s .entry))) r (now (out .entry)) (now (out .exit)) ⌝ }
+{
+    if 512 < s.len() {
+        return bad(out);
+    }
+    let k = forms::cut(s);
+    let i = k.end;
+    let p = k.next;
+    let kind = forms::names::kind_of(&s[..i]);
+    let t = &s[p..];
+    let l = forms::cut(t);
+    let j = l.end;
+    let q = l.next;
+    let language = forms::names::language_of(&t[..j]);
+    settle(kind, language, &t[q..], out)
+}
