@@ -1,0 +1,78 @@
+-- `lines::feed` meets its contract: at the head of the loop the machine has taken the first bytes of the block.
+-- Assumes nothing.
+use Prim.Native.Nat.{ℕ, _≤_, _<_, _+_, _-_}
+use mathlib.Core.Path.{_≡_, refl, sym, ap, _∙_}
+use mathlib.Core.Bool.{true}
+use mathlib.Core.List.{_++_}
+use native.Mathlib.Omega.{arith}
+use lib.ListN.{length, take, getD}
+use Rattle.lines.specs.Program.{isLine, program}
+use Rattle.lines.specs.Machine.{next, told, pending, output}
+use Rattle.lines.proofs.Laws.{pending-turn, output-turn}
+use Rattle.lines.proofs.Lines.{fed, pending-line}
+use Rattle.lines.proofs.feed.Statement.{statement}
+use Rattle.lines.proofs.feed.Tie as tie
+
+abbrev Inv-loop : tie.InvT-loop
+Inv-loop block line₀ n out₀ held₀ used₀ at₀ line out held used at =
+    (at ≤ length block) × (held ≤ 513) × (length line ≡ length line₀) × (used ≤ length out) × (length out ≡ length out₀) × (take held line ≡ pending (take n line₀) (take at block)) × (take used out ≡ output (take n line₀) (take at block)) × (isLine (take n line₀) ≡ true)
+
+abbrev μ-loop : tie.MeasureT-loop
+μ-loop block line₀ n out₀ held₀ used₀ at₀ line out held used at = length block - at
+
+loop-holds : tie.Need-loop-holds Inv-loop μ-loop
+unfolding pending output
+loop-holds c = (omega arith, omega arith, refl, omega arith, refl, refl, refl, c .before .before .before .pre .2)
+
+returns : tie.Need-returns Inv-loop μ-loop
+returns c =
+    let i = c .before .before .loop .inv in
+    let a = c .before .before .before .before .before .before .args in
+    ((i .0, i .1, omega arith), (rw (i .5) (pending-line _ _ (i .7)), ((λ rest. rw (i .5, i .6) (fed _ _ rest (i .7))), λ h. omega arith)))
+
+take-byte-requires : tie.Need-take-byte-requires Inv-loop μ-loop
+take-byte-requires c κs =
+    let i = c .before .before .before .before .before .loop .inv in
+    (i .1, i .2 ∙ c .before .before .before .before .before .before .before .before .before .pre .1, omega arith)
+
+loop-again : tie.Need-loop-again Inv-loop μ-loop
+loop-again c =
+    let t = c .before .before .before .before in
+    let l = t .before .before .before .before .before .before in
+    let h = t .before .before .before .before .before .loop-test .taken in
+    let i = l .loop .inv in
+    let a = l .before .before .before .before .args in
+    let p = take (a .n) (a .line .now) in
+    let x : ℕ = getD (a .block .now) (l .loop .at) 0 in
+    let e = t .take-byte .ensures in (
+      omega (arith, h),
+      e .0 .0,
+      t .take-byte .kept .1 .0 ∙ i .2,
+      omega (arith, e .0 .1, t .take-byte .kept .1 .1 .1 .0),
+      t .take-byte .kept .1 .1 .1 .0 ∙ i .4,
+      e .1 .0 ∙ ap (λ q. next q x) (i .5) ∙ sym (pending-turn p (a .block .now) (l .loop .at) h),
+      e .1 .1 ∙ rw (i .5, i .6) (sym (output-turn p (a .block .now) (l .loop .at) h)),
+      i .7,
+    )
+
+returns-2 : tie.Need-returns-2 Inv-loop μ-loop
+returns-2 c =
+    let i = c .before .loop .inv in
+    ((i .0, i .1, omega arith), (rw (i .5) (pending-line _ _ (i .7)), ((λ rest. rw (i .5, i .6) (fed _ _ rest (i .7))), λ h. absurd (omega arith))))
+
+pub feed-spec : {M : Type 1} → statement M
+feed-spec =
+    tie.close
+    (tie.spec Inv-loop μ-loop loop-holds
+    (λ c. omega arith)
+    (λ c. c .before .before .loop .inv .2)
+    (λ c. c .before .before .loop .inv .4)
+    returns
+    (λ c. omega arith)
+    take-byte-requires
+    (λ c. let b = c .before .before .before .before .before .before in omega (arith, b .before .before .before .loop-test .taken))
+    (λ c. let b = c .before .before .before .before .before .before in omega (arith, b .before .before .before .loop-test .taken))
+    loop-again
+    (λ c. c .before .loop .inv .2)
+    (λ c. c .before .loop .inv .4)
+    returns-2)
