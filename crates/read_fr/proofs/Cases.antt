@@ -2,20 +2,21 @@
 -- Assumes nothing.
 use Prim.Native.Nat.{ℕ, zero, suc, _+_, _-_, _*_, _%_, _<_, _≤_}
 use mathlib.Core.Path.{_≡_, refl, sym, ap, _∙_}
-use mathlib.Core.Bool.{Bool, false}
+use mathlib.Core.Bool.{Bool, true, false}
 use mathlib.Core.List.{List, [], _∷_, _++_, append-nil, append-assoc}
 use native.Mathlib.Omega.{arith}
-use borrow.Author.Tests.{eq-eqb, ne-eqb, lt-ltb, le-ltb}
+use borrow.Author.Tests.{eq-eqb, ne-eqb, lt-ltb, le-ltb, ltb-true, ltb-false}
 use lib.Dec.{ltb}
 use lib.ListN.{length, take, drop, set, length-drop, drop-of-length-le}
-use lib.Seq.{drop-drop}
 use Rattle.base.specs.Decides.{Decides}
-use Rattle.tokens.specs.Tokens.{firstWord, afterWord, split, key}
+use Rattle.tokens.specs.Tokens.{firstWord, afterWord, split}
 use Rattle.tokens.proofs.Words.{split-first}
+use Rattle.walker.specs.Walk.{found}
+use Rattle.walker.specs.declared.Found.{Found}
+use Rattle.walker.proofs.Steps.{goes-on, goes-within, goes-far}
 use Rattle.meanings_fr.specs.Meanings.{meaningOf}
 use Rattle.phrase.specs.Phrase.{phrase}
 use Rattle.phrase.specs.Plan.{pieces, says}
-use Rattle.phrase.proofs.Laws.{from, from-is}
 use Rattle.read_fr.specs.Reading.{meant, meanings, grow, times, one, Group, guess, seems, reads, isMinus, unsigned, guessed}
 use Rattle.read_fr.proofs.Seeming.{seems-scale}
 use Rattle.read_fr.proofs.Guesses.{reads-here, reads-over}
@@ -62,17 +63,34 @@ unfolding meanings split
 no-meanings [] h = refl
 no-meanings (b ∷ s) h = absurd (omega arith)
 
-module _ (s : List ℕ) (at : ℕ) where
-  pub step : (k n : ℕ) → at < length s → k ≡ key (firstWord (from at s)) → drop n (from at s) ≡ afterWord (from at s)
-      → meanings (drop at s) ≡ meaningOf k ∷ meanings (drop (at + n) s)
-  step k n h e f =
-      let d : from at s ≡ drop at s = from-is at s in
-      let l : 0 < length (drop at s) = rw (length-drop at s) (omega arith) in
-      let a : afterWord (drop at s) ≡ drop (at + n) s = sym (rw d at f) ∙ drop-drop n at s in
-      first-means (drop at s) l ∙ rw (a, e, d) refl
+-- a step of the walk: a word, or the end
+module _ (s : List ℕ) (at : ℕ) (w : Found) (e : w ≡ found s at) where
+  pub stands : w .more ≡ true → at < length s
+  stands m = ltb-true at (length s) (sym (ap (λ (x : Found). x .more) e) ∙ m)
 
-  pub at-end : length s ≤ at → meanings (drop at s) ≡ []
-  at-end h = no-meanings (drop at s) (rw (length-drop at s) (omega arith))
+  pub word-means : w .more ≡ true → meanings (drop at s) ≡ meaningOf (w .key) ∷ meanings (drop (at + w .next) s)
+  word-means m =
+      let h = stands m in
+      first-means (drop at s) (rw (length-drop at s) (omega arith)) ∙ rw (e, goes-on s at) refl
+
+  pub on-within : w .more ≡ true → at + w .next ≤ length s
+  on-within m = let h = stands m in rw e (goes-within s at (omega arith))
+
+  pub on-far : w .more ≡ true → 0 < w .next
+  on-far m = let h = stands m in rw e (goes-far s at h)
+
+  pub at-end : w .more ≡ false → meanings (drop at s) ≡ []
+  at-end m =
+      let h : length s ≤ at = ltb-false at (length s) (sym (ap (λ (x : Found). x .more) e) ∙ m) in
+      no-meanings (drop at s) (rw (length-drop at s) (omega arith))
+
+-- the first step
+module _ (s : List ℕ) (w : Found) (e : w ≡ found s 0) (m : w .more ≡ true) where
+  pub first-word : meanings s ≡ meaningOf (w .key) ∷ meanings (drop (w .next) s)
+  first-word = let z : 0 + w .next ≡ w .next = omega arith in rw z at (word-means s 0 w e m)
+
+  pub first-within : w .next ≤ length s
+  first-within = let h = on-within s 0 w e m in omega arith
 
 -- a group ends at a scale word, or with the text
 module _ (s : List ℕ) (h c at : ℕ) (inv : seems 0 0 (meanings s) ≡ seems h c (meanings (drop at s))) where
@@ -84,13 +102,13 @@ module _ (s : List ℕ) (h c at : ℕ) (inv : seems 0 0 (meanings s) ≡ seems h
       → seems 0 0 (meanings s) ≡ seems h′ c′ (meanings (drop at′ s))
   group-more m at′ h′ c′ e f = inv ∙ ap (seems h c) e ∙ f (meanings (drop at′ s))
 
-  pub group-end : length s ≤ at → seems 0 0 (meanings s) ≡ guess (100 * h + c) 0 (meanings (drop at s))
+  pub group-end : meanings (drop at s) ≡ [] → seems 0 0 (meanings s) ≡ guess (100 * h + c) 0 (meanings (drop at s))
   unfolding seems
-  group-end l = inv ∙ rw (at-end s at l) refl
+  group-end n = inv ∙ rw n refl
 
 -- the sign
-pub sign-none : (s : List ℕ) → length s ≡ 0 → (ltb 0 0 ≡ isMinus (meanings s)) × (meanings (drop 0 s) ≡ unsigned (meanings s)) × (0 ≤ length s)
-sign-none s h = rw (no-meanings s h) (refl, refl, omega arith)
+pub sign-none : (s : List ℕ) → meanings s ≡ [] → (ltb 0 0 ≡ isMinus (meanings s)) × (meanings (drop 0 s) ≡ unsigned (meanings s)) × (0 ≤ length s)
+sign-none s n = rw n (refl, refl, omega arith)
 
 module _ (s : List ℕ) (m n : ℕ) (e : meanings s ≡ m ∷ meanings (drop n s)) (l : n ≤ length s) where
   pub sign-some : m ≡ 2001 → 0 < n → (ltb 0 n ≡ isMinus (meanings s)) × (meanings (drop n s) ≡ unsigned (meanings s)) × (n ≤ length s)

@@ -89,10 +89,10 @@ fn group(s: &[u8]) -> Seem
     let mut h: u16 = 0;
     let mut c: u16 = 0;
     let mut at: usize = 0;
-    while at < s.len() {
-        let t = tokens::first(&s[at..]);
-        let m = meanings_fr::meaning(t.key);
-        at += t.next;
+    let mut w = walker::word(s, 0);
+    while w.more {
+        let m = meanings_fr::meaning(w.key);
+        at += w.next;
         if 100 < m {
             return Seem {
                 value: one(100 * h + c),
@@ -103,6 +103,7 @@ fn group(s: &[u8]) -> Seem
         let k = add(h, c, m);
         h = k.h;
         c = k.c;
+        w = walker::word(s, at);
     }
     Seem {
         value: 100 * h + c,
@@ -145,12 +146,12 @@ fn guess(s: &[u8], out: &mut [u16])
 fn sign(s: &[u8]) -> usize
     ensures { λ r. ⌜ (ltb 0 r ≡ isMinus (meanings (now (s .entry)))) × (meanings (drop r (now (s .entry))) ≡ unsigned (meanings (now (s .entry)))) × (r ≤ length (now (s .entry))) ⌝ }
 {
-    if s.len() == 0 {
+    let w = walker::word(s, 0);
+    if w.more {
+        if meanings_fr::meaning(w.key) == 2001 {
+            return w.next;
+        }
         return 0;
-    }
-    let t = tokens::first(s);
-    if meanings_fr::meaning(t.key) == 2001 {
-        return t.next;
     }
     0
 }

@@ -1,56 +1,66 @@
--- `read_fr::group` meets its contract: at the head of the loop the words up to `at` are h hundreds and c.
+-- `read_fr::group` meets its contract: at the head of the loop the words up to `at` are h hundreds and c, and w is what stands there.
 -- Assumes nothing.
-use Prim.Native.Nat.{_+_, _-_, _*_, _<_, _≤_}
+use Prim.Native.Nat.{ℕ, _+_, _-_, _*_, _<_, _≤_}
 use mathlib.Core.Path.{_≡_, refl}
-use mathlib.Core.List.{_∷_}
+use mathlib.Core.List.{List, _∷_}
 use lib.ListN.{length, drop}
 use borrow.Author.Needs.{needs}
 use native.Mathlib.Omega.{arith}
-use Rattle.phrase.proofs.Laws.{from-length}
+use Rattle.walker.specs.Walk.{found}
+use Rattle.walker.specs.declared.Found.{Found}
 use Rattle.read_fr.specs.Reading.{meanings, seems}
 use Rattle.read_fr.proofs.Groups.{one-small}
-use Rattle.read_fr.proofs.Cases.{step, group-scale, group-more, group-end}
+use Rattle.read_fr.proofs.Cases.{word-means, on-within, on-far, at-end, group-scale, group-more, group-end}
 use Rattle.read_fr.proofs.group.Statement.{statement}
 use Rattle.read_fr.proofs.group.Tie as tie
 
 abbrev Inv-loop : tie.InvT-loop
-Inv-loop s h₀ c₀ at₀ h c at = (at ≤ length s) × (h < 10) × (c < 100) × (seems 0 0 (meanings s) ≡ seems h c (meanings (drop at s)))
+Inv-loop s h₀ c₀ at₀ w₀ h c at w = (at ≤ length s) × (h < 10) × (c < 100) × (seems 0 0 (meanings s) ≡ seems h c (meanings (drop at s))) × (w ≡ found s at)
 
 abbrev μ-loop : tie.MeasureT-loop
-μ-loop s h₀ c₀ at₀ h c at = length s - at
+μ-loop s h₀ c₀ at₀ w₀ h c at w = length s - at
 
 -- the word at hand
-word : (c : tie.After-meaning Inv-loop μ-loop)
-    → meanings (drop (c .before .before .before .before .loop .at) (c .before .before .before .before .before .before .args .s .now)) ≡ c .meaning .result ∷ meanings (drop (c .before .before .before .before .loop .at + c .before .first .result .next) (c .before .before .before .before .before .before .args .s .now))
-word c =
-    let f = c .before .first .ensures in
-    rw (c .meaning .ensures) (step (c .before .before .before .before .before .before .args .s .now) (c .before .before .before .before .loop .at) (c .before .first .result .key) (c .before .first .result .next) (c .before .before .before .loop-test .taken) (f .0 .0) (f .1 .0))
+module _ (c : tie.In-loop Inv-loop μ-loop) where
+  abbrev phrase : List ℕ
+  phrase = c .before .before .before .before .args .s .now
 
-within : (c : tie.After-meaning Inv-loop μ-loop) → c .before .before .before .before .loop .at + c .before .first .result .next ≤ length (c .before .before .before .before .before .before .args .s .now)
-within c = omega (arith, c .before .first .ensures .1 .1, from-length (c .before .before .before .before .loop .at) (c .before .before .before .before .before .before .args .s .now), c .before .before .before .loop-test .taken)
+  abbrev at : ℕ
+  at = c .before .loop .at
 
-on : (c : tie.After-meaning Inv-loop μ-loop) → 0 < c .before .first .result .next
-on c = c .before .first .ensures .1 .2 (rw (from-length (c .before .before .before .before .loop .at) (c .before .before .before .before .before .before .args .s .now)) (omega (arith, c .before .before .before .loop-test .taken)))
+  abbrev w : Found
+  w = c .before .loop .w
+
+  within : at + w .next ≤ length phrase
+  within = on-within phrase at w (c .before .loop .inv .4) (c .loop-test .taken)
+
+  on : 0 < w .next
+  on = on-far phrase at w (c .before .loop .inv .4) (c .loop-test .taken)
+
+word : (c : tie.After-meaning Inv-loop μ-loop) → meanings (drop (at (c .before)) (phrase (c .before))) ≡ c .meaning .result ∷ meanings (drop (at (c .before) + w (c .before) .next) (phrase (c .before)))
+word c = rw (c .meaning .ensures) (word-means (phrase (c .before)) (at (c .before)) (w (c .before)) (c .before .before .loop .inv .4) (c .before .loop-test .taken))
 
 returns : tie.Need-returns Inv-loop μ-loop
 returns c =
-    let at = c .before .before .before .before .before .before .before .before in
-    let s = c .before .before .before .before .before .before .before .before .before .before .args .s .now in
-    let inv = at .loop .inv in
-    let e = group-scale s (at .loop .h) (at .loop .c) (at .loop .at) (inv .3) (c .before .before .before .before .meaning .result) (at .loop .at + c .before .before .before .before .before .first .result .next) (word (c .before .before .before .before)) (c .before .before .if1 .taken) in
-    (rw (c .before .one .ensures, c .order-of .ensures) e, (rw (c .before .one .ensures) (one-small (100 * at .loop .h + at .loop .c) (omega (arith, inv .1, inv .2))), within (c .before .before .before .before)))
+    let m = c .before .before .before .before in
+    let i = m .before in
+    let l = i .before .loop in
+    let e = group-scale (phrase i) (l .h) (l .c) (at i) (l .inv .3) (m .meaning .result) (at i + w i .next) (word m) (c .before .before .if1 .taken) in
+    (rw (c .before .one .ensures, c .order-of .ensures) e, (rw (c .before .one .ensures) (one-small (100 * l .h + l .c) (omega (arith, l .inv .1, l .inv .2))), within i))
 
 loop-again : tie.Need-loop-again Inv-loop μ-loop
 loop-again c =
-    let at = c .before .before .before .before .before .before .before in
-    let a = c .add .ensures in
-    (within (c .before .before .before), a .0, a .1, group-more (c .before .before .before .before .before .before .before .before .before .args .s .now) (at .loop .h) (at .loop .c) (at .loop .at) (at .loop .inv .3) (c .before .before .before .meaning .result) (at .loop .at + c .before .before .before .before .first .result .next) (c .add .result .h) (c .add .result .c) (word (c .before .before .before)) (a .2))
+    let m = c .before .before .before .before in
+    let i = m .before in
+    let l = i .before .loop in
+    let a = c .before .add .ensures in
+    (within i, a .0, a .1, group-more (phrase i) (l .h) (l .c) (at i) (l .inv .3) (m .meaning .result) (at i + w i .next) (c .before .add .result .h) (c .before .add .result .c) (word m) (a .2), c .word2 .ensures)
 
 returns-2 : tie.Need-returns-2 Inv-loop μ-loop
 returns-2 c =
-    let at = c .before in
-    let inv = at .loop .inv in
-    (group-end (c .before .before .before .args .s .now) (at .loop .h) (at .loop .c) (at .loop .at) (inv .3) (c .loop-test .left), (omega (arith, inv .1, inv .2), inv .0))
+    let s = c .before .before .before .before .args .s .now in
+    let l = c .before .loop in
+    (group-end s (l .h) (l .c) (l .at) (l .inv .3) (at-end s (l .at) (l .w) (l .inv .4) (c .loop-test .left)), (omega (arith, l .inv .1, l .inv .2), l .inv .0))
 
 pub group-spec : {M : Type 1} → statement M
 group-spec =
@@ -58,20 +68,18 @@ group-spec =
     (tie.spec
     Inv-loop
     μ-loop
-    (λ c. (omega arith, omega arith, omega arith, refl))
-    (λ c. omega (arith, c .loop-test .taken))
-    (λ c. omega (arith, c .loop-test .taken))
-    (λ c. omega (arith, c .loop-test .taken))
     (λ c κs. search needs)
+    (λ c. (omega arith, omega arith, omega arith, refl, c .word .ensures))
     (λ c κs. search needs)
-    (λ c. omega (arith, within (c .before), c .before .before .before .before .before .loop .inv .0))
-    (λ c. omega (arith, c .before .before .before .before .before .before .loop .inv .1))
-    (λ c. omega (arith, c .before .before .before .before .before .before .loop .inv .1, c .before .before .before .before .before .before .loop .inv .2))
+    (λ c. omega (arith, within (c .before .before)))
+    (λ c. omega (arith, c .before .before .before .before .loop .inv .1))
+    (λ c. omega (arith, c .before .before .before .before .loop .inv .1, c .before .before .before .before .loop .inv .2))
     (λ c κs. search needs)
     (λ c κs. search needs)
     returns
-    (λ c κs. let inv = c .before .before .before .before .before .before .loop .inv in (inv .1, inv .2, c .if1 .left))
-    (λ c. omega (arith, within (c .before .before .before), on (c .before .before .before), c .before .before .before .before .before .before .loop-test .taken))
+    (λ c κs. let inv = c .before .before .before .before .loop .inv in (inv .1, inv .2, c .if1 .left))
+    (λ c κs. search needs)
+    (λ c. let i = c .before .before .before .before .before in omega (arith, within i, on i))
     loop-again
     (λ c. omega (arith, c .before .loop .inv .1))
     (λ c. omega (arith, c .before .loop .inv .1, c .before .loop .inv .2))
