@@ -1,9 +1,17 @@
 # Yokepear. Each target works from a fresh checkout; the toolchain's command `rt` must be on the PATH.
-.PHONY: test lib host compare bench clean
+.PHONY: test phrases lib host compare bench clean
 
 # The gate: every proof and every must-fail edit, then the host's tests. The last line is the gate's verdict.
 test:
 	bash tools/test.sh
+
+# The program: answers the lines of standard input. What building it says goes to standard error.
+phrases: target/bin/phrases
+	@target/bin/phrases
+
+target/bin/phrases: crates.txt $(shell find crates -name '*.rt' -o -name '*.antt')
+	@rt check phrases >&2 < /dev/null
+	@touch $@
 
 # The static library and its header, in target/yokepear.
 lib:

@@ -1,3 +1,2 @@
 pub mod Theorems
 pub mod Answers
-pub mod Samples

@@ -1,4 +1,3 @@
 pub mod Texts
 pub mod Entries
 pub mod Theorem
-pub mod Samples
