@@ -1,14 +1,13 @@
 -- What a refusal of 0 tells of settings and texts; the groups of a number; early years.
 -- Assumes nothing.
-use Prim.Native.Nat.{ℕ, zero, suc, _+_, _-_, _^_, _≤_, _<_}
+use Prim.Native.Nat.{ℕ, zero, suc, _<_}
 use mathlib.Core.Path.{_≡_, refl, sym, ap, _∙_}
 use mathlib.Core.Bool.{Bool, true, false, cond, not, _&&_}
-use mathlib.Core.List.{List, [], _∷_}
+use mathlib.Core.List.{List}
 use native.Mathlib.Omega.{arith}
-use native.Mathlib.Nat.{mod-lt, pow-le-pow-right, lt-irrefl, lt-of-lt-of-le, lt-of-le-of-lt, le-trans}
+use native.Mathlib.Nat.{mod-lt}
 use native.Mathlib.Decide.{decLt}
 use borrow.Author.Tests.{lt-leb}
-use lib.Dec.{lit<}
 use lib.IntN.{ℤ, pos, negsuc, natAbs}
 use lib.ListN.{length, getD, List·getD-eq-default}
 use lib.Signed.{leZ}
@@ -18,7 +17,7 @@ use mir.Facts.{toZ-ofZ}
 use Rattle.figures.specs.Text.{digits, plain, value, wellFormed, negative, unsigned}
 use Rattle.figures.specs.Groups.{groupsOf}
 use Rattle.figures.specs.Refusals.{judgeDigits, judgeDigitOrdinal}
-use Rattle.figures.proofs.Laws.Plain.{plain-digits, plain-least, plain-some}
+use Rattle.figures.proofs.Laws.Plain.{plain-digits, plain-some}
 use Rattle.figures.proofs.Laws.Sign.{unsigned-plain, formed-unsigned}
 use Rattle.figures.proofs.Laws.Groups.{groups-length, groups-at}
 use Rattle.figures.proofs.Laws.Refusals.{number-zero, admitted}
@@ -51,23 +50,11 @@ ordinal-digits xs e =
     unsigned-too true e = e
     unsigned-too false e = refl
 
-few : (xs : List ℕ) → plain xs ≡ true → value xs < 10 ^ 39 → length xs ≤ 39
-few [] p h = omega arith
-few (b ∷ bs) p h = go (decLt (length bs) 39)
-  where
-    go : Dec (length bs < 39) → length (b ∷ bs) ≤ 39
-    go (yes l) = omega arith
-    go (no l) =
-        let k : 39 ≤ length bs = omega arith in
-        let m : 10 ^ 39 ≤ 10 ^ length bs = pow-le-pow-right {n = 10} (omega arith) k in
-        absurd (lt-irrefl (value (b ∷ bs)) (lt-of-lt-of-le h (le-trans m (plain-least b bs p (omega arith)))))
-
-pub digit-ordinal-digits : (xs : List ℕ) → digitOrdinalText xs ≡ 0 → (digits xs ≡ true) × (0 < length xs) × (length xs ≤ 39)
+pub digit-ordinal-digits : (xs : List ℕ) → digitOrdinalText xs ≡ 0 → (digits xs ≡ true) × (0 < length xs)
 digit-ordinal-digits xs e =
     let a = admitted (wellFormed xs) (negative xs) (value (unsigned xs)) 340282366920938463463374607431768211455 (number-zero (judgeDigitOrdinal xs) e) in
     let p = plain-text xs (a .formed) (a .sign) in
-    let w : value xs ≤ 340282366920938463463374607431768211455 = rw (unsigned-plain xs (a .sign)) at (a .within) in
-    (plain-digits xs p, plain-some xs p, few xs p (lt-of-le-of-lt w (lit< tt)))
+    (plain-digits xs p, plain-some xs p)
 
 -- the groups of a number are groups
 pub groups : (n : ℕ) → Groups (groupsOf 22 n)

@@ -10,18 +10,18 @@ use Rattle.calls_ordinal.proofs.Admitted.{unrefused, digit-ordinal-digi
 use Rattle.calls_ordinal.proofs.to_ordinal_num.Statement.{statement}
 use Rattle.calls_ordinal.proofs.to_ordinal_num.Tie as tie
 
-say-digit-ordinal-requires : tie.Need-say-digit-ordinal-requires
-say-digit-ordinal-requires c κs =
+say-requires : tie.Need-say-requires
+say-requires c κs =
     let a = c .before .before .before .before .before .before .args in
     let z = unrefused (a .gender) (a .number) (a .case) (digitOrdinalText (now (a .text))) (sym (c .before .before .before .refuse-digit-ordinal .ensures) ∙ c .before .before .if1 .taken) in
     let q = c .before .settings-of .ensures in
     let d = digit-ordinal-digits (now (a .text)) (z .1) in
-    ((omega (arith, q .0, z .0 .0), omega (arith, q .1, z .0 .1), omega (arith, q .2, z .0 .2)), d .0, d .1, d .2)
+    ((omega (arith, q .0, z .0 .0), omega (arith, q .1, z .0 .1), omega (arith, q .2, z .0 .2)), d .0, d .1)
 
 returns : tie.Need-returns
 returns c =
     let q = c .before .before .before .before .settings-of .ensures in
-    said _ _ _ _ _ (sym (c .before .before .before .before .before .before .refuse-digit-ordinal .ensures) ∙ c .before .before .before .before .before .if1 .taken) (rw (q .0, q .1, q .2) at (c .before .before .say-digit-ordinal .ensures))
+    said _ _ _ _ _ (sym (c .before .before .before .before .before .before .refuse-digit-ordinal .ensures) ∙ c .before .before .before .before .before .if1 .taken) (rw (q .0, q .1, q .2) at (c .before .before .say .ensures))
 
 returns-2 : tie.Need-returns-2
 returns-2 c = refusal _ _ _ _ _ (refl, refl) (c .before .refuse-digit-ordinal .ensures) (c .if1 .left)
@@ -29,4 +29,4 @@ returns-2 c = refusal _ _ _ _ _ (refl, refl) (c .before .refuse-digit-ordinal .e
 pub to-ordinal-num-spec : {M : Type 1} → statement M
 to-ordinal-num-spec =
     tie.close
-    (tie.spec (λ c κs. search needs) (λ c κs. search needs) say-digit-ordinal-requires (λ c. search needs) returns returns-2)
+    (tie.spec (λ c κs. search needs) (λ c κs. search needs) say-requires (λ c. search needs) returns returns-2)
