@@ -46,7 +46,7 @@ fn say_ordinal(settings: Settings, text: &[u8], out: &mut [u8]) -> Answer
     requires { ⌜ ((settings .gender < 3) × (settings .number < 2) × (settings .case < 6)) × (digitsOf (now text) ≡ true) ⌝ }
     ensures { λ r. ⌜ Answers r (now (out .entry)) (now (out .exit)) (fitted (now (out .entry)) (ordinalPhrase (settings .gender) (settings .number) (settings .case) (now (text .entry)))) ⌝ }
 {
-    let gs = figures::groups::groups22(text);
+    let gs = groups::groups22(text);
     let mut plan = [0u32; 116];
     let n = spell_ordinal::plan_ordinal(settings, &gs, &mut plan);
     phrase::speak(&plan, n, out)
@@ -58,7 +58,7 @@ fn say_year(settings: Settings, year: i64, out: &mut [u8]) -> Answer
     ensures { λ r. ⌜ Answers r (now (out .entry)) (now (out .exit)) (fitted (now (out .entry)) (yearPhrase (settings .number) (settings .case) year)) ⌝ }
 {
     let mut gs = [0u16; 22];
-    figures::groups::groups_from(figures::year::magnitude(year), &mut gs);
+    groups::groups_from(figures::year::magnitude(year), &mut gs);
     let mut plan = [0u32; 119];
     let n = spell_ordinal::plan_year(settings, is_early(year), &gs, &mut plan);
     phrase::speak(&plan, n, out)
