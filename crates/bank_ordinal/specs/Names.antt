@@ -1,4 +1,4 @@
--- The stems and endings of the Ukrainian ordinals, the digits and the words of years as byte strings, by numbers that only the code knows.
+-- The stems and endings of the Ukrainian ordinals and the words of years as byte strings, by numbers that only the code knows.
 -- Assumes nothing.
 use Prim.Native.String.{String}
 use mathlib.Core.List.{List, [], _∷_}
@@ -10,4 +10,4 @@ names =
     "вісімдесят" ∷ "девʼяност" ∷ "ий" ∷ "ого" ∷ "ому" ∷ "им" ∷ "а" ∷ "ої" ∷ "ій" ∷ "у" ∷ "ою" ∷ "е" ∷ "і" ∷ "их" ∷
     "ими" ∷ "ього" ∷ "ьому" ∷ "ім" ∷ "я" ∷ "ьої" ∷ "ю" ∷ "ьою" ∷ "є" ∷ "іх" ∷ "іми" ∷ "й" ∷ "го" ∷ "му" ∷ "м" ∷ "ї" ∷
     "х" ∷ "ми" ∷ "рік" ∷ "року" ∷ "роком" ∷ "році" ∷ "роки" ∷ "років" ∷ "рокам" ∷ "роками" ∷ "роках" ∷ "до" ∷
-    "н.е." ∷ "0" ∷ "1" ∷ "2" ∷ "3" ∷ "4" ∷ "5" ∷ "6" ∷ "7" ∷ "8" ∷ "9" ∷ []
+    "н.е." ∷ []

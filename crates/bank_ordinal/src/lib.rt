@@ -1,4 +1,4 @@
-// The stems and endings of the Ukrainian ordinals, the digits and the words of years as byte strings, by numbers that only the code knows.
+// The stems and endings of the Ukrainian ordinals and the words of years as byte strings, by numbers that only the code knows.
 mod parts;
 
 ghost use mathlib.Core.Path.{_≡_};
@@ -77,16 +77,6 @@ pub fn len(id: u32) -> usize
         61 => 10,
         62 => 4,
         63 => 6,
-        64 => 1,
-        65 => 1,
-        66 => 1,
-        67 => 1,
-        68 => 1,
-        69 => 1,
-        70 => 1,
-        71 => 1,
-        72 => 1,
-        73 => 1,
         _ => 0,
     }
 }
@@ -101,7 +91,6 @@ pub fn put(id: u32, out: &mut [u8]) -> usize
         1 => parts::part1(id, out),
         2 => parts::part2(id, out),
         3 => parts::part3(id, out),
-        4 => parts::part4(id, out),
         _ => 0,
     }
 }
@@ -115,7 +104,6 @@ pub fn pass(id: u32, s: &[u8]) -> usize
         1 => parts::front1(id, s),
         2 => parts::front2(id, s),
         3 => parts::front3(id, s),
-        4 => parts::front4(id, s),
         _ => 1,
     }
 }

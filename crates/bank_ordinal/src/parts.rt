@@ -137,39 +137,6 @@ const W62: [u8; 4] = *b"\xd0\xb4\xd0\xbe"; // до
 
 const W63: [u8; 6] = *b"\xd0\xbd\x2e\xd0\xb5\x2e"; // н.е.
 
-const W64: [u8; 1] = *b"\x30"; // 0
-
-const W65: [u8; 1] = *b"\x31"; // 1
-
-const W66: [u8; 1] = *b"\x32"; // 2
-
-const W67: [u8; 1] = *b"\x33"; // 3
-
-const W68: [u8; 1] = *b"\x34"; // 4
-
-const W69: [u8; 1] = *b"\x35"; // 5
-
-const W70: [u8; 1] = *b"\x36"; // 6
-
-const W71: [u8; 1] = *b"\x37"; // 7
-
-const W72: [u8; 1] = *b"\x38"; // 8
-
-const W73: [u8; 1] = *b"\x39"; // 9
-
-fn put_01(w: [u8; 1], out: &mut [u8]) -> usize
-    requires { ⌜ length w ≤ length (now out) ⌝ }
-    ensures { λ r. ⌜ (r ≡ length w) × (now (out .exit) ≡ over (now (out .entry)) w) ⌝ }
-{
-    copy(&w, out)
-}
-
-fn pass_01(w: [u8; 1], s: &[u8]) -> usize
-    ensures { λ r. ⌜ r ≡ passed w (now (s .entry)) ⌝ }
-{
-    if front(&w, s) { 2 } else { 0 }
-}
-
 fn put_02(w: [u8; 2], out: &mut [u8]) -> usize
     requires { ⌜ length w ≤ length (now out) ⌝ }
     ensures { λ r. ⌜ (r ≡ length w) × (now (out .exit) ≡ over (now (out .entry)) w) ⌝ }
@@ -469,7 +436,7 @@ pub fn part3(id: u32, out: &mut [u8]) -> usize
         61 => put_10(W61, out),
         62 => put_04(W62, out),
         63 => put_06(W63, out),
-        _ => id as usize,
+        _ => 0,
     }
 }
 
@@ -494,44 +461,6 @@ pub fn front3(id: u32, s: &[u8]) -> usize
         61 => pass_10(W61, s),
         62 => pass_04(W62, s),
         63 => pass_06(W63, s),
-        _ => 1,
-    }
-}
-
-pub fn part4(id: u32, out: &mut [u8]) -> usize
-    requires { ⌜ (64 ≤ id) × ((id < 80) × (length (textIn names id) ≤ length (now out))) ⌝ }
-    ensures { λ r. ⌜ (r ≡ length (textIn names id)) × (now (out .exit) ≡ over (now (out .entry)) (textIn names id)) ⌝ }
-{
-    match id {
-        64 => put_01(W64, out),
-        65 => put_01(W65, out),
-        66 => put_01(W66, out),
-        67 => put_01(W67, out),
-        68 => put_01(W68, out),
-        69 => put_01(W69, out),
-        70 => put_01(W70, out),
-        71 => put_01(W71, out),
-        72 => put_01(W72, out),
-        73 => put_01(W73, out),
-        _ => 0,
-    }
-}
-
-pub fn front4(id: u32, s: &[u8]) -> usize
-    requires { ⌜ (64 ≤ id) × (id < 80) ⌝ }
-    ensures { λ r. ⌜ r ≡ passed (textIn names id) (now (s .entry)) ⌝ }
-{
-    match id {
-        64 => pass_01(W64, s),
-        65 => pass_01(W65, s),
-        66 => pass_01(W66, s),
-        67 => pass_01(W67, s),
-        68 => pass_01(W68, s),
-        69 => pass_01(W69, s),
-        70 => pass_01(W70, s),
-        71 => pass_01(W71, s),
-        72 => pass_01(W72, s),
-        73 => pass_01(W73, s),
         _ => 1,
     }
 }

@@ -30,7 +30,7 @@ fn spell_cardinal(f: French, text: &[u8], out: &mut [u8]) -> Answer
 {
     let zero = figures::is_zero(text);
     let minus = figures::is_negative(text);
-    let gs = figures::groups::groups34(figures::after_sign(text));
+    let gs = groups::groups34(figures::after_sign(text));
     let mut plan = [0u32; 308];
     let n = spell_fr::plan_cardinal(f, zero, minus, &gs, &mut plan);
     phrase::speak(&plan, n, out)
@@ -42,7 +42,7 @@ fn spell_ordinal(f: French, text: &[u8], out: &mut [u8]) -> Answer
     ensures { λ r. ⌜ Answers r (now (out .entry)) (now (out .exit)) (fitted (now (out .entry)) (ordinalOf f (now (text .entry)))) ⌝ }
     ensures { λ r. ⌜ r .length ≤ 12320 ⌝ }
 {
-    let gs = figures::groups::groups34(figures::after_sign(text));
+    let gs = groups::groups34(figures::after_sign(text));
     let mut plan = [0u32; 308];
     let n = spell_fr::plan_ordinal(f, &gs, &mut plan);
     phrase::speak(&plan, n, out)
@@ -60,8 +60,8 @@ fn read_cardinal(f: French, said: &[u8], out: &mut [u8]) -> Answer
             number: 6,
             length: 0,
         },
-        Seen::Plain => figures::numbers::put_number(false, &gs, out),
-        Seen::Negative => figures::numbers::put_number(true, &gs, out),
+        Seen::Plain => numerals::put_number(false, &gs, out),
+        Seen::Negative => numerals::put_number(true, &gs, out),
     }
 }
 
@@ -72,7 +72,7 @@ fn read_ordinal(f: French, said: &[u8], out: &mut [u8]) -> Answer
 {
     let mut gs = [0u16; 34];
     if read_fr::read_ordinal(f, said, &mut gs) {
-        figures::numbers::put_number(false, &gs, out)
+        numerals::put_number(false, &gs, out)
     } else {
         Answer {
             number: 6,

@@ -16,7 +16,7 @@ fn spell(settings: Settings, currency: usize, text: &[u8], out: &mut [u8]) -> An
 {
     let whole = figures::money::whole_part(text);
     let zero = figures::is_zero(whole);
-    let gs = figures::groups::groups22(figures::after_sign(whole));
+    let gs = groups::groups22(figures::after_sign(whole));
     let hundredths = figures::value_of(figures::money::hundredths_part(text)) as u32;
     let mut plan = [0u32; 230];
     let n = spell_money::plan_money(settings, currency, zero, &gs, hundredths, &mut plan);
@@ -35,7 +35,7 @@ fn read(settings: Settings, currency: usize, said: &[u8], out: &mut [u8]) -> Ans
             number: 6,
             length: 0,
         },
-        Seen::Amount(h) => figures::money::put_money_text(&gs, h, out),
+        Seen::Amount(h) => numerals::money::put_money_text(&gs, h, out),
     }
 }
 

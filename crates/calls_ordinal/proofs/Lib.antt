@@ -1,2 +1,4 @@
 pub mod Replies
 pub mod Admitted
+pub mod Softness
+pub mod Hyphened

@@ -1,12 +1,13 @@
 // Ukrainian ordinals, digit ordinals and years from bytes to bytes.
+mod digits; // digits.rt: digit ordinals
+
 use base::Answer;
 use uk::Settings;
 ghost use mathlib.Core.Path.{_≡_};
 ghost use mathlib.Core.Bool.{true};
-ghost use Prim.Native.Nat.{_≤_, _<_};
-ghost use lib.ListN.{length};
+ghost use Prim.Native.Nat.{_<_};
 ghost use Rattle.base.specs.Answer.{fitted, replied, Answers};
-ghost use Rattle.figures.specs.Text.{digits};
+ghost use Rattle.figures.specs.Text.{digits as digitsOf};
 ghost use Rattle.ordinal.specs.DigitOrdinal.{digitOrdinal};
 ghost use Rattle.ordinal.specs.Year.{early};
 ghost use Rattle.calls_ordinal.specs.Calls.{unlessSettings, ordinalText, digitOrdinalText, ordinalPhrase, yearPhrase};
@@ -42,24 +43,13 @@ fn refuse_digit_ordinal(gender: u32, number: u32, case: u32, text: &[u8]) -> u32
 
 // The ordinal of an admitted text.
 fn say_ordinal(settings: Settings, text: &[u8], out: &mut [u8]) -> Answer
-    requires { ⌜ ((settings .gender < 3) × (settings .number < 2) × (settings .case < 6)) × (digits (now text) ≡ true) ⌝ }
+    requires { ⌜ ((settings .gender < 3) × (settings .number < 2) × (settings .case < 6)) × (digitsOf (now text) ≡ true) ⌝ }
     ensures { λ r. ⌜ Answers r (now (out .entry)) (now (out .exit)) (fitted (now (out .entry)) (ordinalPhrase (settings .gender) (settings .number) (settings .case) (now (text .entry)))) ⌝ }
     ensures { λ r. ⌜ r .length ≤ 12320 ⌝ }
 {
-    let gs = figures::groups::groups22(text);
+    let gs = groups::groups22(text);
     let mut plan = [0u32; 116];
     let n = spell_ordinal::plan_ordinal(settings, &gs, &mut plan);
-    phrase::speak(&plan, n, out)
-}
-
-// The digit ordinal of an admitted text.
-fn say_digit_ordinal(settings: Settings, text: &[u8], out: &mut [u8]) -> Answer
-    requires { ⌜ ((settings .gender < 3) × (settings .number < 2) × (settings .case < 6)) × (digits (now text) ≡ true) × (0 < length (now text)) × (length (now text) ≤ 39) ⌝ }
-    ensures { λ r. ⌜ Answers r (now (out .entry)) (now (out .exit)) (fitted (now (out .entry)) (digitOrdinal (settings .gender) (settings .number) (settings .case) (now (text .entry)))) ⌝ }
-    ensures { λ r. ⌜ r .length ≤ 12320 ⌝ }
-{
-    let mut plan = [0u32; 40];
-    let n = spell_ordinal::plan_digit_ordinal(settings, text, &mut plan);
     phrase::speak(&plan, n, out)
 }
 
@@ -70,7 +60,7 @@ fn say_year(settings: Settings, year: i64, out: &mut [u8]) -> Answer
     ensures { λ r. ⌜ r .length ≤ 12320 ⌝ }
 {
     let mut gs = [0u16; 22];
-    figures::groups::groups_from(figures::year::magnitude(year), &mut gs);
+    groups::groups_from(figures::year::magnitude(year), &mut gs);
     let mut plan = [0u32; 119];
     let n = spell_ordinal::plan_year(settings, is_early(year), &gs, &mut plan);
     phrase::speak(&plan, n, out)
@@ -99,7 +89,7 @@ pub fn to_ordinal_num(gender: u32, number: u32, case: u32, text: &[u8], out: &mu
 {
     let n = refuse_digit_ordinal(gender, number, case, text);
     if n == 0 {
-        say_digit_ordinal(uk::settings_of(gender, number, case), text, out)
+        digits::say(uk::settings_of(gender, number, case), text, out)
     } else {
         Answer {
             number: n,

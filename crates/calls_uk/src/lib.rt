@@ -29,7 +29,7 @@ fn spell(settings: Settings, text: &[u8], out: &mut [u8]) -> Answer
 {
     let zero = figures::is_zero(text);
     let minus = figures::is_negative(text);
-    let gs = figures::groups::groups22(figures::after_sign(text));
+    let gs = groups::groups22(figures::after_sign(text));
     let mut plan = [0u32; 112];
     let n = spell_uk::plan_cardinal(settings, zero, minus, &gs, &mut plan);
     phrase::speak(&plan, n, out)
@@ -47,8 +47,8 @@ fn read(settings: Settings, said: &[u8], out: &mut [u8]) -> Answer
             number: 6,
             length: 0,
         },
-        Seen::Plain => figures::numbers::put_number(false, &gs, out),
-        Seen::Negative => figures::numbers::put_number(true, &gs, out),
+        Seen::Plain => numerals::put_number(false, &gs, out),
+        Seen::Negative => numerals::put_number(true, &gs, out),
     }
 }
 

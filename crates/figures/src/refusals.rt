@@ -2,6 +2,7 @@
 use super::Judged;
 use super::after_sign;
 use super::is_negative;
+use super::is_plain;
 use super::is_well_formed;
 use super::money::is_money_formed;
 use super::money::whole_part;
@@ -89,12 +90,14 @@ fn limited(formed: bool, refused: bool, w: &[u8], l: &[u8]) -> Judged
     }
 }
 
-// What is refused of a digit ordinal's text.
+// What is refused of a digit ordinal's text. Digits have no sign, so that a sign is looked for in other texts alone.
 pub fn judge_digit_ordinal(s: &[u8]) -> Judged
     ensures { λ r. ⌜ r ≡ judgeDigitOrdinal (now (s .entry)) ⌝ }
 {
-    let most = b"340282366920938463463374607431768211455";
-    limited(is_well_formed(s), is_negative(s), after_sign(s), most)
+    if is_plain(s) {
+        return limited(true, false, s, b"340282366920938463463374607431768211455");
+    }
+    decide(is_well_formed(s), true, true)
 }
 
 // What is refused of a money text.

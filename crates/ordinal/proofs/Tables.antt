@@ -78,7 +78,7 @@ pub our-era : text 831 ≡ utf8 "н.е."
 unfolding text textIn names
 our-era = refl
 
--- bases and digits, from a number on
+-- bases, from a number on
 module _ (base lo n : ℕ) (f : ℕ → List ℕ) (t : all lo n (λ i. entry (base + i) (f i)) ≡ true) where
   from : (i : ℕ) → lo ≤ i → i < lo + n → text (base + i) ≡ f i
   from i a b = holds (base + i) (f i) (all-at lo n (λ i. entry (base + i) (f i)) t i a b)
@@ -90,10 +90,6 @@ unit-bases u a b = from 772 1 9 (λ u. form1 ordinalUnitBases (u - 1)) refl u (o
 pub ten-bases : (t : ℕ) → 1 < t → t < 10 → text (781 + t) ≡ form1 ordinalTensBases (t - 1)
 unfolding entry form1 ordinalTensBases
 ten-bases t a b = from 781 2 8 (λ t. form1 ordinalTensBases (t - 1)) refl t (omega arith) (omega arith)
-
-pub digits : (b : ℕ) → 48 ≤ b → b < 58 → text (784 + b) ≡ b ∷ []
-unfolding entry
-digits b l h = from 784 48 10 (λ b. b ∷ []) refl b l h
 
 -- endings by softness, gender, grammatical number and case
 abbrev row : Bool → ℕ → ℕ → ℕ

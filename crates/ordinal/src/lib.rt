@@ -2,8 +2,7 @@
 use uk::Settings;
 ghost use mathlib.Core.Path.{_≡_};
 ghost use mathlib.Core.Bool.{cond};
-ghost use mathlib.Core.List.{[], _∷_};
-ghost use Prim.Native.Nat.{_+_, _-_, _≤_, _<_};
+ghost use Prim.Native.Nat.{_+_, _-_, _<_};
 ghost use lib.Dec.{eqb};
 ghost use Rattle.base.specs.Utf8.{form1, form2};
 ghost use Rattle.words.specs.Text.{text};
@@ -120,12 +119,4 @@ pub fn ten_base(t: usize) -> u16
     ensures { λ r. ⌜ text r ≡ form1 ordinalTensBases (t - 1) ⌝ }
 {
     781 + t as u16
-}
-
-// The text of a digit.
-pub fn digit(b: u8) -> u16
-    requires { ⌜ (48 ≤ b) × (b < 58) ⌝ }
-    ensures { λ r. ⌜ text r ≡ b ∷ [] ⌝ }
-{
-    784 + b as u16
 }

@@ -56,7 +56,7 @@ run-one {s = s} {b = b} a e = rw (← e) (record { said = record { pieces = (s, 
 pub rerun : {s k n r : ℕ} {xs ys : List ℕ} {us ws : List Word} (i : ℕ) → Ran s k xs n ys r us → k ≤ i → us ≡ ws → Ran s i xs n ys r ws
 rerun {s = s} i a h e = record { said = resay i (a .said) h (ap (run s) e) }
 
-pub run-on : (ws : List Word) → run 0 ws ≡ flatten ws
+run-on : (ws : List Word) → run 0 ws ≡ flatten ws
 unfolding run flatten
 run-on [] = refl
 run-on (w ∷ ws) = refl
@@ -83,10 +83,6 @@ unfolding run flatten
 run-ended {s = s} {w = w} {v = v} a d e f =
     let p = run-more 2 (run-one a e) (run-one d f) (omega arith) in
     record { said = resay 2 (p .said) (omega arith) (ap (λ (l : List ℕ). gap s ++ l) (sym (append-assoc w v []))) }
-
-pub run-both : {j k n m r : ℕ} {xs ys zs : List ℕ} {us vs : List Word} (i : ℕ) → Ran 0 j xs n ys m us → Ran 0 k ys m zs r vs → j + k ≤ i → Ran 0 i xs n zs r (us ++ vs)
-run-both {us = us} {vs = vs} i p q h =
-    record { said = resay i (both i (p .said) (q .said) h) (omega arith) (rw (run-on us, run-on vs, run-on (us ++ vs), flatten-append us vs) refl) }
 
 -- words run together after a space are one word
 pub run-word : {k n r : ℕ} {xs ys : List ℕ} {ws : List Word} → Ran 32 k xs n ys r ws → (ws ≡ [] → ⊥) → Spoken k xs n ys r (flatten ws ∷ [])

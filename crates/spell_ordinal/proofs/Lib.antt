@@ -1,4 +1,3 @@
 pub mod Laws
 pub mod Cases
 pub mod Orders
-pub mod Figures

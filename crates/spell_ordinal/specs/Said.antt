@@ -1,4 +1,4 @@
--- What pieces say after others, and how they begin: for words that run together from many pieces, and for digits.
+-- What pieces say after others, and how they begin: for words that run together from many pieces.
 -- Assumes nothing.
 use Prim.Native.Nat.{ℕ}
 use mathlib.Core.Path.{_≡_}
@@ -31,7 +31,3 @@ pub record Ran (s k : ℕ) (xs : List ℕ) (n : ℕ) (ys : List ℕ) (r : ℕ) (
 -- so much is added to a plan, and says the words ws, each after a space
 pub record Spoken (k : ℕ) (xs : List ℕ) (n : ℕ) (ys : List ℕ) (r : ℕ) (ws : List Word) : Type 0 where
   pub said : Said 32 k xs n ys r (spaced ws)
-
--- a byte as a text
-abbrev pub single : ℕ → Word
-single b = b ∷ []

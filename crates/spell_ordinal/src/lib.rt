@@ -1,15 +1,12 @@
-// The plans of Ukrainian ordinals, digit ordinals and years. A number comes as its groups of three digits, lowest order first.
+// The plans of Ukrainian ordinals and years. A number comes as its groups of three digits, lowest order first.
 mod compound;
-mod digits;
 mod pieces;
 mod plain;
 
-use crate::pieces::HYPHEN;
 use crate::pieces::SPACE;
 use phrase::push;
 use uk::Settings;
 ghost use mathlib.Core.Path.{_≡_};
-ghost use mathlib.Core.Bool.{true};
 ghost use Prim.Native.Nat.{suc, _+_, _≤_, _<_};
 ghost use lib.ListN.{length, drop, set};
 ghost use Rattle.base.specs.Join.{joined};
@@ -20,9 +17,7 @@ ghost use Rattle.phrase.specs.Speaks.{Told};
 ghost use Rattle.uk.specs.Ukrainian.{ukrainian};
 ghost use Rattle.uk.specs.Cardinal.{groupsBelow};
 ghost use Rattle.ordinal.specs.Ordinal.{lowestWords, lowest as lowestOf, zeros, ordinalWords};
-ghost use Rattle.ordinal.specs.DigitOrdinal.{digitOrdinal};
 ghost use Rattle.ordinal.specs.Year.{eraWords, yearWords};
-ghost use Rattle.figures.specs.Text.{digits as digitsOf};
 ghost use Rattle.spell_ordinal.specs.Said.{Spoken};
 ghost use Rattle.spell_ordinal.specs.Groups.{Groups, sumOf};
 
@@ -132,16 +127,6 @@ pub fn plan_ordinal(settings: Settings, gs: &[u16; 22], plan: &mut [u32]) -> usi
     ensures { λ r. ⌜ (r ≤ 116) × (phrase (says (now (plan .exit)) r) ≡ joined (ordinalWords (settings .gender) (settings .number) (settings .case) (now (gs .entry)))) ⌝ }
 {
     say_ordinal(settings, gs, plan, 0)
-}
-
-// The plan of a digit ordinal under these settings, of at most 39 digits.
-pub fn plan_digit_ordinal(settings: Settings, text: &[u8], plan: &mut [u32]) -> usize
-    requires { ⌜ ((settings .gender < 3) × (settings .number < 2) × (settings .case < 6)) × (digitsOf (now text) ≡ true) × (0 < length (now text)) × (length (now text) ≤ 39) × (40 ≤ length (now plan)) ⌝ }
-    ensures { λ r. ⌜ (r ≤ 40) × (phrase (says (now (plan .exit)) r) ≡ digitOrdinal (settings .gender) (settings .number) (settings .case) (now (text .entry))) ⌝ }
-{
-    let ending = ordinal::short_ending(ordinal::is_soft(digits::last_two(text)), settings);
-    let k = digits::say_digits(text, plan);
-    push(plan, k, HYPHEN, ending)
 }
 
 // The plan of a year under these settings, from the groups of its magnitude; early is whether it is 0 or below.

@@ -9,12 +9,10 @@ ghost use Rattle.phrase.specs.Plan.{Added};
 
 pub const SPACE: u8 = 32;
 
-pub const HYPHEN: u8 = 45;
-
 pub const ON: u8 = 0;
 
 // A small number, widened.
-pub fn wide(id: u8) -> u16
+fn wide(id: u8) -> u16
     ensures { λ r. ⌜ r ≡ id ⌝ }
 {
     id as u16

@@ -10,8 +10,8 @@ use Rattle.calls_ordinal.proofs.Admitted.{unrefused, digit-ordinal-digi
 use Rattle.calls_ordinal.proofs.to_ordinal_num.Statement.{statement}
 use Rattle.calls_ordinal.proofs.to_ordinal_num.Tie as tie
 
-say-digit-ordinal-requires : tie.Need-say-digit-ordinal-requires
-say-digit-ordinal-requires c κs =
+say-requires : tie.Need-say-requires
+say-requires c κs =
     let a = c .before .before .before .before .before .before .args in
     let z = unrefused (a .gender) (a .number) (a .case) (digitOrdinalText (now (a .text))) (sym (c .before .before .before .refuse-digit-ordinal .ensures) ∙ c .before .before .if1 .taken) in
     let q = c .before .settings-of .ensures in
@@ -21,7 +21,7 @@ say-digit-ordinal-requires c κs =
 returns : tie.Need-returns
 returns c =
     let q = c .before .before .before .before .settings-of .ensures in
-    (said _ _ _ _ _ (sym (c .before .before .before .before .before .before .refuse-digit-ordinal .ensures) ∙ c .before .before .before .before .before .if1 .taken) (rw (q .0, q .1, q .2) at (c .before .before .say-digit-ordinal .ensures .0)), c .before .before .say-digit-ordinal .ensures .1)
+    (said _ _ _ _ _ (sym (c .before .before .before .before .before .before .refuse-digit-ordinal .ensures) ∙ c .before .before .before .before .before .if1 .taken) (rw (q .0, q .1, q .2) at (c .before .before .say .ensures .0)), c .before .before .say .ensures .1)
 
 returns-2 : tie.Need-returns-2
 returns-2 c = (refusal _ _ _ _ _ (refl, refl) (c .before .refuse-digit-ordinal .ensures) (c .if1 .left), omega arith)
@@ -29,4 +29,4 @@ returns-2 c = (refusal _ _ _ _ _ (refl, refl) (c .before .refuse-digit-ordinal .
 pub to-ordinal-num-spec : {M : Type 1} → statement M
 to-ordinal-num-spec =
     tie.close
-    (tie.spec (λ c κs. search needs) (λ c κs. search needs) say-digit-ordinal-requires (λ c. search needs) returns returns-2)
+    (tie.spec (λ c κs. search needs) (λ c κs. search needs) say-requires (λ c. search needs) returns returns-2)

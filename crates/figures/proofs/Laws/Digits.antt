@@ -2,17 +2,18 @@
 -- Assumes nothing.
 use Prim.Native.Nat.{ℕ, zero, suc, _+_, _-_, _*_, _/_, _%_, _^_, _≤_, _<_}
 use native.Mathlib.Nat.{one-le-pow, pow-suc, pow-succ', mul-assoc, mul-le-mul-left, add-mul, add-assoc}
+use native.Mathlib.Decide.{decLt}
 use native.Mathlib.Numerals.{add-one}
 use native.Mathlib.Omega.{arith}
-use mathlib.Core.Bool.{Bool, true, false, _&&_, and-eq-true-iff}
+use mathlib.Core.Bool.{Bool, true, false, _&&_, and-false, and-eq-true-iff}
 use mathlib.Core.List.{List, [], _∷_, _++_}
 use mathlib.Core.Path.{_≡_, refl, sym, ap, _∙_}
 use lib.Arith.{digits-lt, digits-div, digits-mod}
-use lib.Dec.{leb}
+use lib.Dec.{leb, ltb}
 use lib.ListN.{length, getD, take, drop, take-append-drop, length-append}
 use lib.Pow.{pow-add}
 use lib.Seq.{take-suc, drop-cons}
-use borrow.Author.Tests.{leb-true, le-leb, lt-leb}
+use borrow.Author.Tests.{leb-true, le-leb, lt-leb, ltb-true, ltb-false, lt-ltb}
 use Rattle.figures.specs.Text.{digit, digits, value}
 
 -- two tests hold
@@ -61,20 +62,43 @@ digits-at [] i e h = absurd (omega arith)
 digits-at (b ∷ bs) zero e h = digits-head b bs e
 digits-at (b ∷ bs) (suc i) e h = digits-at bs i (digits-tail b bs e) (omega arith)
 
--- a loop over the bytes: at a byte that is no digit, and at a digit
-digits-step : (s : List ℕ) (i : ℕ) → i < length s → digits (drop i s) ≡ (digit (getD s i 0) && digits (drop (i + 1) s))
-digits-step s i h = rw (add-one, drop-cons s i 0)
+-- how far a byte stands past '0' tells whether it is a digit
+digit-past : (b p : ℕ) → b < 256 → p ≡ (b + 208) % 256 → digit b ≡ ltb p 10
+digit-past b p h e = go (ltb p 10) refl
+  where
+    go : (t : Bool) → ltb p 10 ≡ t → digit b ≡ t
+    go true q = let l : p < 10 = ltb-true p 10 q in digit-is b (omega arith) (omega arith)
+    go false q = none (ltb-false p 10 q) (decLt b 48)
+      where
+        none : 10 ≤ p → Dec (b < 48) → digit b ≡ false
+        none l (yes s) = rw (lt-leb 48 b s) refl
+        none l (no s) = let a : 48 ≤ b = omega arith in let f : 57 < b = omega arith in rw (le-leb 48 b a, lt-leb b 57 f) refl
 
-pub digits-low : (s : List ℕ) (i : ℕ) → i < length s → getD s i 0 < 48 → digits (drop i s) ≡ false
-digits-low s i h l = digits-step s i h ∙ rw (lt-leb 48 (getD s i 0) l)
+-- the farthest of two is below 10 where both are
+farther : (m p : ℕ) (b : Bool) → m < p → (ltb m 10 && (ltb p 10 && b)) ≡ (ltb p 10 && b)
+farther m p b h = go (ltb p 10) refl
+  where
+    go : (t : Bool) → ltb p 10 ≡ t → (ltb m 10 && (t && b)) ≡ (t && b)
+    go true q = let l : p < 10 = ltb-true p 10 q in rw (lt-ltb m 10 (omega arith)) refl
+    go false q = and-false (ltb m 10)
 
-pub digits-high : (s : List ℕ) (i : ℕ) → i < length s → 57 < getD s i 0 → digits (drop i s) ≡ false
-digits-high s i h l =
-    let a : 48 ≤ getD s i 0 = omega arith in
-    digits-step s i h ∙ rw (le-leb 48 (getD s i 0) a, lt-leb (getD s i 0) 57 l)
+nearer : (m p : ℕ) (b : Bool) → p ≤ m → (ltb m 10 && (ltb p 10 && b)) ≡ (ltb m 10 && b)
+nearer m p b h = go (ltb m 10) refl
+  where
+    go : (t : Bool) → ltb m 10 ≡ t → (t && (ltb p 10 && b)) ≡ (t && b)
+    go true q = let l : m < 10 = ltb-true m 10 q in rw (lt-ltb p 10 (omega arith)) refl
+    go false q = refl
 
-pub digits-next : (s : List ℕ) (i : ℕ) → i < length s → 48 ≤ getD s i 0 → getD s i 0 ≤ 57 → digits (drop i s) ≡ digits (drop (i + 1) s)
-digits-next s i h l m = digits-step s i h ∙ rw (le-leb 48 (getD s i 0) l, le-leb (getD s i 0) 57 m)
+-- a loop over the bytes, of which the farthest past '0' is kept: one that is farther, and one that is not
+module _ (s : List ℕ) (i m p : ℕ) (h : i < length s) (l : getD s i 0 < 256) (e : p ≡ (getD s i 0 + 208) % 256) where
+  digits-step : digits (drop i s) ≡ (ltb p 10 && digits (drop (i + 1) s))
+  digits-step = rw (add-one, drop-cons s i 0, digit-past (getD s i 0) p l e) refl
+
+  pub digits-farther : m < p → (ltb m 10 && digits (drop i s)) ≡ (ltb p 10 && digits (drop (i + 1) s))
+  digits-farther g = rw digits-step (farther m p (digits (drop (i + 1) s)) g)
+
+  pub digits-nearer : p ≤ m → (ltb m 10 && digits (drop i s)) ≡ (ltb m 10 && digits (drop (i + 1) s))
+  digits-nearer g = rw digits-step (nearer m p (digits (drop (i + 1) s)) g)
 
 -- a value fits its number of digits
 pub value-lt : (xs : List ℕ) → digits xs ≡ true → value xs < 10 ^ length xs

@@ -4,15 +4,17 @@ use Prim.Native.Nat.{ℕ, _≤_}
 use native.Mathlib.Omega.{arith}
 use mathlib.Core.Bool.{Bool, true, false, not, and-true, and-false}
 use mathlib.Core.List.{List}
-use mathlib.Core.Path.{_≡_, refl}
+use mathlib.Core.Path.{_≡_, refl, sym, ap, _∙_}
 use lib.Dec.{leb, ltb}
 use lib.ListN.{length}
 use borrow.Author.Tests.{ltb-false, le-ltb}
 use Rattle.figures.specs.Refusals.{numberOf, judged, judgeDigits}
-use Rattle.figures.specs.Text.{negative, unsigned, wellFormed}
+use Rattle.figures.specs.Text.{plain, value, negative, unsigned, wellFormed}
 use Rattle.figures.specs.declared.Judged.{Judged}
 use Rattle.figures.specs.declared.Judged.the-variants.{Fine, Malformed, Negative, Large}
 use Rattle.figures.proofs.Laws.Compare.{not-leb}
+use Rattle.figures.proofs.Laws.Plain.{plain-digits}
+use Rattle.figures.proofs.Laws.Sign.{digits-unsigned, unsigned-plain, formed-unsigned}
 
 -- digits counted, where the sign is admitted and where it is not
 module _ (signed : Bool) (most : ℕ) (s : List ℕ) where
@@ -21,6 +23,26 @@ module _ (signed : Bool) (most : ℕ) (s : List ℕ) where
 
   pub judge-unsigned : signed ≡ false → judged (not (wellFormed s)) (negative s) (not (leb (length (unsigned s)) most)) ≡ judgeDigits signed most s
   judge-unsigned e = rw (e, and-true (negative s), not-leb)
+
+-- a value with a limit, where no sign is admitted: a plain text, and any other
+module _ (s : List ℕ) (limit : ℕ) where
+  pub judge-plain : plain s ≡ true → judged false false (ltb limit (value s)) ≡ judged (not (wellFormed s)) (negative s) (ltb limit (value (unsigned s)))
+  judge-plain p =
+      let e : negative s ≡ false = digits-unsigned s (plain-digits s p) in
+      let u : unsigned s ≡ s = unsigned-plain s e in
+      rw (u, p, e)
+
+  pub judge-other : plain s ≡ false → judged (not (wellFormed s)) true false ≡ judged (not (wellFormed s)) (negative s) (ltb limit (value (unsigned s)))
+  judge-other p = go (wellFormed s) (negative s) refl refl
+    where
+      go : (f m : Bool) → wellFormed s ≡ f → negative s ≡ m → judged (not f) true false ≡ judged (not f) m (ltb limit (value (unsigned s)))
+      go false m q e = refl
+      go true true q e = refl
+      go true false q e =
+          let t : plain s ≡ true = ap plain (sym (unsigned-plain s e)) ∙ formed-unsigned s q in
+          let z : _≡_ {A = Bool} true false = sym t ∙ p in
+          let n : _≡_ {A = ℕ} 0 1 = cc in
+          absurd (omega arith)
 
 -- nothing is refused where 01's number is 0
 pub number-zero : (j : Judged) → numberOf j ≡ 0 → j ≡ Fine

@@ -1,8 +1,9 @@
 -- `bank_ordinal::parts::front3` meets its contract: in the arm of a number it compares with the text with that number.
 -- Assumes nothing.
 use borrow.Author.Needs.{needs}
+use lib.Dec.{lit≤}
 use Rattle.base.specs.Bank.{textIn}
-use Rattle.base.proofs.Arms.{fronts, out-of}
+use Rattle.base.proofs.Arms.{fronts, after-last}
 use Rattle.bank_ordinal.specs.Names.{names}
 use Rattle.bank_ordinal.proofs.parts.front3.Statement.{statement}
 use Rattle.bank_ordinal.proofs.parts.front3.Tie as tie
@@ -44,4 +45,4 @@ front3-spec =
     (λ c. fronts names _ _ (c .before .match .keys14) (c .pass-104 .ensures))
     (λ c. fronts names _ _ (c .before .match .keys15) (c .pass-043 .ensures))
     (λ c. fronts names _ _ (c .before .match .keys16) (c .pass-062 .ensures))
-    (λ c. absurd (out-of 48 _ 16 (c .match .rest) (c .before .before .pre .0) (c .before .before .pre .1))))
+    (λ c. after-last names 48 _ 16 _ (c .match .rest) (c .before .before .pre .0) (lit≤ tt)))

@@ -1,8 +1,9 @@
 -- `bank_ordinal::parts::part3` meets its contract: in the arm of a number it writes the text with that number.
 -- Assumes nothing.
 use borrow.Author.Needs.{needs}
+use lib.Dec.{lit≤}
 use Rattle.base.specs.Bank.{textIn}
-use Rattle.base.proofs.Arms.{need, gives, out-of}
+use Rattle.base.proofs.Arms.{need, gives, after}
 use Rattle.bank_ordinal.specs.Names.{names}
 use Rattle.bank_ordinal.proofs.parts.part3.Statement.{statement}
 use Rattle.bank_ordinal.proofs.parts.part3.Tie as tie
@@ -44,4 +45,4 @@ part3-spec =
     (λ c. search needs) (λ c. gives names _ _ _ (c .before .before .before .before .match .keys14) (c .before .before .put-104 .ensures))
     (λ c. search needs) (λ c. gives names _ _ _ (c .before .before .before .before .match .keys15) (c .before .before .put-043 .ensures))
     (λ c. search needs) (λ c. gives names _ _ _ (c .before .before .before .before .match .keys16) (c .before .before .put-062 .ensures))
-    (λ c. absurd (out-of 48 _ 16 (c .match .rest) (c .before .before .pre .0) (c .before .before .pre .1 .0))))
+    (λ c. after names 48 _ 16 _ (c .match .rest) (c .before .before .pre .0) (lit≤ tt)))

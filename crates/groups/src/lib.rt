@@ -1,0 +1,96 @@
+// A number as groups of three digits, the lowest first.
+ghost use mathlib.Core.Path.{_≡_};
+ghost use mathlib.Core.Bool.{true};
+ghost use mathlib.Core.List.{[], _∷_};
+ghost use Prim.Native.Nat.{_≤_};
+ghost use lib.ListN.{length, take, replicate};
+ghost use Rattle.figures.specs.Text.{digits, value};
+ghost use Rattle.figures.specs.Groups.{groupsOf};
+
+// What three digits mean; their bytes of '0' add up to 5328.
+fn three(a: u8, b: u8, c: u8) -> u16
+    requires { ⌜ digits (a ∷ b ∷ c ∷ []) ≡ true ⌝ }
+    ensures { λ r. ⌜ r ≡ value (a ∷ b ∷ c ∷ []) ⌝ }
+{
+    a as u16 * 100 + b as u16 * 10 + c as u16 - 5328
+}
+
+// What the first e digits mean, three at most.
+fn front(s: &[u8], e: usize) -> u16
+    requires { ⌜ digits (now s) ≡ true ⌝ }
+    requires { ⌜ (e ≤ 3) × (e ≤ length (now s)) ⌝ }
+    ensures { λ r. ⌜ r ≡ value (take e (now (s .entry))) ⌝ }
+{
+    if e == 0 {
+        return 0;
+    }
+    if e == 1 {
+        return three(48, 48, s[0]);
+    }
+    if e == 2 {
+        return three(48, s[0], s[1]);
+    }
+    three(s[0], s[1], s[2])
+}
+
+// Stores the groups of digits over zeros, as many as out holds: three digits at a time, from the last on.
+fn fill(s: &[u8], out: &mut [u16])
+    requires { ⌜ digits (now s) ≡ true ⌝ }
+    requires { ⌜ now out ≡ replicate (length (now out)) 0 ⌝ }
+    ensures { λ _. ⌜ now (out .exit) ≡ groupsOf (length (now (out .entry))) (value (now (s .entry))) ⌝ }
+{
+    let mut o = 0;
+    let mut e = s.len();
+    while 3 < e {
+        if out.len() <= o {
+            return;
+        }
+        let p = e - 3;
+        out[o] = three(s[p], s[p + 1], s[p + 2]);
+        e = p;
+        o += 1;
+    }
+    if o < out.len() {
+        out[o] = front(s, e);
+    }
+}
+
+// The 22 lowest groups of digits.
+pub fn groups22(s: &[u8]) -> [u16; 22]
+    requires { ⌜ digits (now s) ≡ true ⌝ }
+    ensures { λ r. ⌜ r ≡ groupsOf 22 (value (now (s .entry))) ⌝ }
+{
+    let mut g = [0u16; 22];
+    fill(s, &mut g);
+    g
+}
+
+// The 34 lowest groups of digits.
+pub fn groups34(s: &[u8]) -> [u16; 34]
+    requires { ⌜ digits (now s) ≡ true ⌝ }
+    ensures { λ r. ⌜ r ≡ groupsOf 34 (value (now (s .entry))) ⌝ }
+{
+    let mut g = [0u16; 34];
+    fill(s, &mut g);
+    g
+}
+
+// The lowest groups of n, as many as out holds.
+pub fn groups_from(n: u64, out: &mut [u16])
+    ensures { λ _. ⌜ now (out .exit) ≡ groupsOf (length (now (out .entry))) n ⌝ }
+{
+    let mut rest = n;
+    let mut o = 0;
+    while rest != 0 {
+        if out.len() <= o {
+            return;
+        }
+        out[o] = (rest % 1000) as u16;
+        rest /= 1000;
+        o += 1;
+    }
+    while o < out.len() {
+        out[o] = 0;
+        o += 1;
+    }
+}

@@ -1,0 +1,26 @@
+-- `numerals::put_number` meets its contract: 7 where the text is longer than the buffer, and else the text.
+-- Assumes nothing.
+use native.Mathlib.Omega.{arith}
+use mathlib.Core.Path.{refl}
+use borrow.Author.Needs.{needs}
+use Rattle.figures.specs.Groups.{total}
+use Rattle.figures.specs.Text.{signedText}
+use Rattle.figures.proofs.Laws.Buffer.{answer-yes, answer-no}
+use Rattle.numerals.proofs.put_number.Statement.{statement}
+use Rattle.numerals.proofs.put_number.Tie as tie
+
+returns : tie.Need-returns
+returns c =
+    let b = c .before in
+    let a = b .before .before .before .args in
+    answer-no _ (a .out .now) (a .out .now) (signedText (a .minus) (total (a .g .now))) (b .number-size .ensures .0) refl (omega arith) refl
+
+returns-2 : tie.Need-returns-2
+returns-2 c =
+    let b = c .before .before .before .before .before in
+    let a = b .before .before .before .args in
+    answer-yes _ (a .out .now) _ (signedText (a .minus) (total (a .g .now))) (b .number-size .ensures .0) refl (omega arith) (c .before .before .put-signed .ensures)
+
+pub put-number-spec : {M : Type 1} → statement M
+put-number-spec =
+    tie.close (tie.spec (λ c κs. search needs) returns (λ c κs. search needs) (λ c. search needs) returns-2)

@@ -1,0 +1,149 @@
+// The way back to a text: the number text of groups, written to a lent buffer.
+pub mod money; // money.rt: the money text of groups and hundredths
+
+use base::Answer;
+ghost use mathlib.Core.Path.{_≡_};
+ghost use Prim.Native.Nat.{_-_, _*_, _^_, _≤_, _<_};
+ghost use lib.ListN.{length};
+ghost use Rattle.base.specs.Buffer.{over};
+ghost use Rattle.base.specs.Answer.{fitted, Answers};
+ghost use Rattle.figures.specs.Text.{fixed, text, signedText};
+ghost use Rattle.figures.specs.Groups.{total, Groups};
+
+// How many groups there are up to the highest that is not 0, at least one.
+fn height(g: &[u16]) -> usize
+    requires { ⌜ Groups (now g) ⌝ }
+    requires { ⌜ 0 < length (now g) ⌝ }
+    ensures { λ r. ⌜ (0 < r) × (r ≤ length (now (g .entry))) ⌝ }
+    ensures { λ r. ⌜ (total (now (g .entry)) < 1000 ^ r) × (1 < r → 1000 ^ (r - 1) ≤ total (now (g .entry))) ⌝ }
+{
+    let mut o = g.len();
+    while 1 < o {
+        if g[o - 1] != 0 {
+            return o;
+        }
+        o -= 1;
+    }
+    1
+}
+
+// How many digits a group has without leading zeros.
+fn group_size(x: u16) -> usize
+    requires { ⌜ x < 1000 ⌝ }
+    ensures { λ r. ⌜ r ≡ length (text x) ⌝ }
+{
+    if x < 10 {
+        return 1;
+    }
+    if x < 100 {
+        return 2;
+    }
+    3
+}
+
+// The length of the number text of the number with the groups g.
+pub fn text_size(g: &[u16]) -> usize
+    requires { ⌜ Groups (now g) ⌝ }
+    requires { ⌜ (0 < length (now g)) × (length (now g) ≤ 34) ⌝ }
+    ensures { λ r. ⌜ r ≡ length (text (total (now (g .entry)))) ⌝ }
+{
+    let o = height(g) - 1;
+    o * 3 + group_size(g[o])
+}
+
+// Writes the last k digits of x, one to three.
+fn put_digits(x: u16, k: usize, out: &mut [u8])
+    requires { ⌜ (x < 1000) × (0 < k) × (k < 4) × (k ≤ length (now out)) ⌝ }
+    ensures { λ _. ⌜ now (out .exit) ≡ over (now (out .entry)) (fixed k x) ⌝ }
+{
+    if k == 1 {
+        out[0] = (48 + x % 10) as u8;
+        return;
+    }
+    if k == 2 {
+        out[0] = (48 + x / 10 % 10) as u8;
+        out[1] = (48 + x % 10) as u8;
+        return;
+    }
+    out[0] = (48 + x / 100) as u8;
+    out[1] = (48 + x / 10 % 10) as u8;
+    out[2] = (48 + x % 10) as u8;
+}
+
+// Writes the o lowest groups of g, three digits each, from the highest down.
+fn put_groups(g: &[u16], o: usize, out: &mut [u8])
+    requires { ⌜ Groups (now g) ⌝ }
+    requires { ⌜ (o ≤ length (now g)) × (o * 3 ≤ length (now out)) ⌝ }
+    ensures { λ _. ⌜ now (out .exit) ≡ over (now (out .entry)) (fixed (o * 3) (total (now (g .entry)))) ⌝ }
+{
+    let mut left = o;
+    let mut i = 0;
+    while 0 < left {
+        left -= 1;
+        put_digits(g[left], 3, &mut out[i..]);
+        i += 3;
+    }
+}
+
+// Writes that text, which is w bytes long: the highest group without leading zeros, and the groups below it.
+pub fn put_text(g: &[u16], out: &mut [u8], w: usize)
+    requires { ⌜ Groups (now g) ⌝ }
+    requires { ⌜ (0 < length (now g)) × (length (now g) ≤ 34) ⌝ }
+    requires { ⌜ w ≡ length (text (total (now g))) ⌝ }
+    requires { ⌜ w ≤ length (now out) ⌝ }
+    ensures { λ _. ⌜ now (out .exit) ≡ over (now (out .entry)) (text (total (now (g .entry)))) ⌝ }
+{
+    let o = (w - 1) / 3;
+    let i = w - o * 3;
+    put_digits(g[o], i, out);
+    put_groups(g, o, &mut out[i..]);
+}
+
+// The length of the number text of that number, or of its opposite.
+pub fn number_size(minus: bool, g: &[u16]) -> usize
+    requires { ⌜ Groups (now g) ⌝ }
+    requires { ⌜ (0 < length (now g)) × (length (now g) ≤ 34) ⌝ }
+    ensures { λ r. ⌜ (r ≡ length (signedText minus (total (now (g .entry))))) × (r ≤ 103) ⌝ }
+{
+    if minus {
+        text_size(g) + 1
+    } else {
+        text_size(g)
+    }
+}
+
+// Writes that text, which is w bytes long.
+pub fn put_signed(minus: bool, g: &[u16], out: &mut [u8], w: usize)
+    requires { ⌜ Groups (now g) ⌝ }
+    requires { ⌜ (0 < length (now g)) × (length (now g) ≤ 34) ⌝ }
+    requires { ⌜ w ≡ length (signedText minus (total (now g))) ⌝ }
+    requires { ⌜ w ≤ length (now out) ⌝ }
+    ensures { λ _. ⌜ now (out .exit) ≡ over (now (out .entry)) (signedText minus (total (now (g .entry)))) ⌝ }
+{
+    if minus {
+        out[0] = 45;
+        put_text(g, &mut out[1..], w - 1);
+    } else {
+        put_text(g, out, w);
+    }
+}
+
+// Writes that text and answers its length, or answers 7 with the length where the buffer is shorter.
+pub fn put_number(minus: bool, g: &[u16], out: &mut [u8]) -> Answer
+    requires { ⌜ Groups (now g) ⌝ }
+    requires { ⌜ (0 < length (now g)) × (length (now g) ≤ 34) ⌝ }
+    ensures { λ r. ⌜ Answers r (now (out .entry)) (now (out .exit)) (fitted (now (out .entry)) (signedText minus (total (now (g .entry))))) ⌝ }
+{
+    let w = number_size(minus, g);
+    if out.len() < w {
+        return Answer {
+            number: 7,
+            length: w,
+        };
+    }
+    put_signed(minus, g, out, w);
+    Answer {
+        number: 0,
+        length: w,
+    }
+}
