@@ -5,7 +5,7 @@ use base::Answer;
 use uk::Settings;
 ghost use mathlib.Core.Path.{_≡_};
 ghost use mathlib.Core.Bool.{true};
-ghost use Prim.Native.Nat.{_<_};
+ghost use Prim.Native.Nat.{_≤_, _<_};
 ghost use Rattle.base.specs.Answer.{fitted, replied, Answers};
 ghost use Rattle.figures.specs.Text.{digits as digitsOf};
 ghost use Rattle.ordinal.specs.DigitOrdinal.{digitOrdinal};
