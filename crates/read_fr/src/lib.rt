@@ -60,7 +60,10 @@ fn grow(c: u16, m: u16) -> u16
 fn times(c: u16) -> u16
     ensures { λ r. ⌜ r ≡ timesOf c ⌝ }
 {
-    if c == 0 { 1 } else { c % 10 }
+    if c == 0 {
+        return 1;
+    }
+    if c < 10 { c } else { c % 10 }
 }
 
 // What a scale word is after the number v.
