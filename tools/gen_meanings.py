@@ -12,6 +12,7 @@ LANGUAGES = {'fr': 'French', 'uk': 'Ukrainian'}
 MULTIPLIER, KEYS = 371, 65536  # as in crates/tokens/specs/Tokens.antt
 # How many places a table has: at least two fifths of them are taken, so that the compiler makes a load of the match and no jump.
 SLOTS = {'fr': 256, 'uk': 512}
+ZEROS = {'fr': '', 'uk': " (zero's word closes a group of order 0)"}
 
 
 def key(word):
@@ -77,7 +78,7 @@ class Crate:
             row = ' ∷ '.join(['(%d, %d)' % (k, v) for k, v, w in reversed(entries)] + ['[]'])
             lists += '-- %s\nunfoldable pub %s : Entries\n%s =\n%s\n\n' % (said[name], name, name, filled(row))
         self.write('specs/Lib.antt', 'pub mod Meanings\n')
-        self.write('specs/Meanings.antt', '''-- What the words of the %s numbers mean, by their keys: 1 to 999 a number, 1000 and more a scale word of that order (zero's word closes a group of order 0), 2001 minus, 0 nothing.
+        self.write('specs/Meanings.antt', '''-- What the words of the %s numbers mean, by their keys: 1 to 999 a number, 1000 and more a scale word of that order%s, 2001 minus, 0 nothing.
 -- What a reader makes of these is held against the grammar's own words afterwards, so nothing here has to be believed.
 -- Assumes nothing.
 use Prim.Native.Nat.{ℕ}
@@ -87,26 +88,34 @@ use Rattle.meanings.specs.Lookup.{Entries, lookupIn}
 %s-- the meaning of the word with this key
 unfoldable pub meaningOf : ℕ → ℕ
 meaningOf key = lookupIn %d keys values others key
-''' % (LANGUAGES[self.language], lists, self.slots))
+''' % (LANGUAGES[self.language], ZEROS[self.language], lists, self.slots))
 
     def source(self):
         said = {
-            'keys': ('key_at(slot: u32) -> u32', 'slot', 'The key that has this place in the tables, or 0.'),
-            'values': ('meaning_at(slot: u32) -> u16', 'slot', 'What it means.'),
-            'others': ('other(key: u32) -> u16', 'key', 'What a key means that found its place taken.'),
+            'keys': ('key_at(slot: u32) -> u32', 'slot', 'The key that has this place in the tables, or 0. So many places are taken that the compiler makes a load of the match.'),
+            'values': ('meaning_at(slot: u32) -> u16', 'slot', 'What the key at this place means.'),
+            'others': ('other(key: u32) -> u16', 'key', 'What a key means that found its place taken by another.'),
         }
-        out = '''// The meanings by their keys. A match over places that are near each other is compiled to a load.
-ghost use mathlib.Core.Path.{_≡_};
-ghost use Rattle.meanings.specs.Lookup.{lookup};
-ghost use Rattle.%s.specs.Meanings.{keys, values, others};
-''' % self.name
         for name, entries in self.tables:
             head, by, comment = said[name]
             arms = ''.join('        %d => %d, // %s\n' % e for e in entries)
-            out += '\n// %s\npub fn %s\n    ensures { λ r. ⌜ r ≡ lookup %s %s ⌝ }\n{\n    match %s {\n%s        _ => 0,\n    }\n}\n' % (comment, head, by, name, by, arms)
-        self.write('src/places.rt', out)
+            self.write('src/%s.rt' % name, '''// %s
+ghost use mathlib.Core.Path.{_≡_};
+ghost use Rattle.meanings.specs.Lookup.{lookup};
+ghost use Rattle.%s.specs.Meanings.{%s as %sOf};
+
+pub fn %s
+    ensures { λ r. ⌜ r ≡ lookup %s %sOf ⌝ }
+{
+    match %s {
+%s        _ => 0,
+    }
+}
+''' % (comment, self.name, name, name, head, by, name, by, arms))
         self.write('src/lib.rt', '''// What the words of the %s numbers mean, by their keys.
-mod places;
+mod keys;
+mod others;
+mod values;
 
 ghost use mathlib.Core.Path.{_≡_};
 ghost use Rattle.%s.specs.Meanings.{meaningOf};
@@ -116,10 +125,10 @@ pub fn meaning(key: u32) -> u16
     ensures { λ r. ⌜ r ≡ meaningOf key ⌝ }
 {
     let slot = key %% %d;
-    if places::key_at(slot) == key {
-        return places::meaning_at(slot);
+    if keys::key_at(slot) == key {
+        return values::meaning_at(slot);
     }
-    places::other(key)
+    others::other(key)
 }
 ''' % (LANGUAGES[self.language], self.name, self.slots))
 
@@ -143,7 +152,7 @@ pub %s-spec : {M : Type 1} → statement M
 use Rattle.meanings.specs.Lookup.{lookup}
 use Rattle.meanings.proofs.Arms.{found, missed}
 ''' + tables % name
-            self.proof('places/' + function, uses, 'unfolding lookup %s\n%s-spec =\n    tie.close\n    (tie.spec\n    %s)\n' % (name, function.replace('_', '-'), '\n    '.join(arms)), 'in the arm of a number stands its entry')
+            self.proof(name + '/' + function, uses, 'unfolding lookup %s\n%s-spec =\n    tie.close\n    (tie.spec\n    %s)\n' % (name, function.replace('_', '-'), '\n    '.join(arms)), 'in the arm of a number stands its entry')
         uses = '''use borrow.Author.Needs.{needs}
 use Rattle.meanings.proofs.Arms.{placed, elsewhere}
 ''' + tables % 'keys, values, others, meaningOf'

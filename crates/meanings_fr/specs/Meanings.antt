@@ -1,4 +1,4 @@
--- What the words of the French numbers mean, by their keys: 1 to 999 a number, 1000 and more a scale word of that order (zero's word closes a group of order 0), 2001 minus, 0 nothing.
+-- What the words of the French numbers mean, by their keys: 1 to 999 a number, 1000 and more a scale word of that order, 2001 minus, 0 nothing.
 -- What a reader makes of these is held against the grammar's own words afterwards, so nothing here has to be believed.
 -- Assumes nothing.
 use Prim.Native.Nat.{ℕ}

@@ -194,31 +194,45 @@ fn top(n: usize, gs: &[u16; 34]) -> usize
     n
 }
 
-// Whether the number with these groups is n.
-pub fn is(gs: &[u16; 34], n: u16) -> bool
-    requires { ⌜ (n < 1000) × Groups34 (now gs) ⌝ }
+// Whether the number with these groups, of which those from `high` on are 0, is n.
+fn is_below(high: usize, gs: &[u16; 34], n: u16) -> bool
+    requires { ⌜ (n < 1000) × Groups34 (now gs) × Topped (now gs) 34 high ⌝ }
     ensures { λ r. ⌜ r ≡ eqb (total (now (gs .entry))) n ⌝ }
 {
-    if 1 < top(34, gs) {
+    if 1 < high {
         return false;
     }
     gs[0] == n
 }
 
-// The plan of a cardinal: zero's word, or the minus word if negative and the groups.
-fn plan_words(f: French, zero: bool, negative: bool, gs: &[u16; 34], plan: &mut [u32]) -> usize
-    requires { ⌜ (f .region < 3) × (307 ≤ length (now plan)) ⌝ }
+// Whether the number with these groups is n.
+pub fn is(gs: &[u16; 34], n: u16) -> bool
+    requires { ⌜ (n < 1000) × Groups34 (now gs) ⌝ }
+    ensures { λ r. ⌜ r ≡ eqb (total (now (gs .entry))) n ⌝ }
+{
+    is_below(top(34, gs), gs, n)
+}
+
+// The plan of a cardinal: zero's word, or the minus word if negative and the groups, of which those from `high` on are 0.
+fn plan_words(
+    f: French,
+    zero: bool,
+    negative: bool,
+    high: usize,
+    gs: &[u16; 34],
+    plan: &mut [u32],
+) -> usize
+    requires { ⌜ (f .region < 3) × Topped (now gs) 34 high × (307 ≤ length (now plan)) ⌝ }
     ensures { λ r. ⌜ Told 307 (now (plan .entry)) 0 (now (plan .exit)) r (spacedBy (joiner f) (cardinalWords f zero negative (now (gs .entry)))) ⌝ }
 {
     if zero {
         return say(plan, 0, fr::joiner(f), ZERO);
     }
-    let n = top(34, gs);
     if negative {
         let at = say(plan, 0, fr::joiner(f), MOINS);
-        return groups(f, n, gs, plan, at);
+        return groups(f, high, gs, plan, at);
     }
-    groups(f, n, gs, plan, 0)
+    groups(f, high, gs, plan, 0)
 }
 
 // The plan of a cardinal's phrase.
@@ -232,7 +246,7 @@ pub fn plan_cardinal(
     requires { ⌜ (f .region < 3) × (308 ≤ length (now plan)) ⌝ }
     ensures { λ r. ⌜ (r ≤ 308) × (phraseOf (says (now (plan .exit)) r) ≡ cardinalPhrase f zero negative (now (gs .entry))) ⌝ }
 {
-    plan_words(f, zero, negative, gs, plan)
+    plan_words(f, zero, negative, top(34, gs), gs, plan)
 }
 
 // The plan of an ordinal's phrase: the cardinal's, with the last word's stem and the ending.
@@ -240,10 +254,11 @@ pub fn plan_ordinal(f: French, gs: &[u16; 34], plan: &mut [u32]) -> usize
     requires { ⌜ (f .region < 3) × Groups34 (now gs) × (308 ≤ length (now plan)) ⌝ }
     ensures { λ r. ⌜ (r ≤ 308) × (phraseOf (says (now (plan .exit)) r) ≡ ordinalPhrase f (eqb (total (now (gs .entry))) 0) (eqb (total (now (gs .entry))) 1) (now (gs .entry))) ⌝ }
 {
-    if is(gs, 1) {
+    let high = top(34, gs);
+    if is_below(high, gs, 1) {
         return say(plan, 0, fr::joiner(f), PREMIER);
     }
-    let n = plan_words(f, is(gs, 0), false, gs, plan);
+    let n = plan_words(f, is_below(high, gs, 0), false, high, gs, plan);
     let last = n - 1;
     let code = plan[last];
     let a = say(
