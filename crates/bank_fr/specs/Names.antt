@@ -6,12 +6,22 @@ use mathlib.Core.List.{List, [], _∷_}
 unfoldable pub names : List String
 names =
     "" ∷ "zéro" ∷ "moins" ∷ "un" ∷ "deux" ∷ "trois" ∷ "quatre" ∷ "cinq" ∷ "six" ∷ "sept" ∷ "huit" ∷ "neuf" ∷ "une" ∷
-    "dix" ∷ "onze" ∷ "douze" ∷ "treize" ∷ "quatorze" ∷ "quinze" ∷ "seize" ∷ "vingt" ∷ "trente" ∷ "quarante" ∷
-    "cinquante" ∷ "soixante" ∷ "septante" ∷ "huitante" ∷ "nonante" ∷ "vingts" ∷ "cent" ∷ "cents" ∷ "et" ∷ "s" ∷
-    "premier" ∷ "ième" ∷ "mille" ∷ "million" ∷ "milliard" ∷ "billion" ∷ "billiard" ∷ "trillion" ∷ "trilliard" ∷
-    "quadrillion" ∷ "quadrilliard" ∷ "quintillion" ∷ "quintilliard" ∷ "sextillion" ∷ "sextilliard" ∷ "septillion" ∷
-    "septilliard" ∷ "octillion" ∷ "octilliard" ∷ "nonillion" ∷ "nonilliard" ∷ "décillion" ∷ "décilliard" ∷
-    "unodécillion" ∷ "unodécilliard" ∷ "duodécillion" ∷ "duodécilliard" ∷ "trédécillion" ∷ "trédécilliard" ∷
-    "quattuordécillion" ∷ "quattuordécilliard" ∷ "quindécillion" ∷ "quindécilliard" ∷ "sexdécillion" ∷
-    "sexdécilliard" ∷ "quatr" ∷ "onz" ∷ "douz" ∷ "treiz" ∷ "quatorz" ∷ "quinz" ∷ "seiz" ∷ "trent" ∷ "quarant" ∷
-    "cinquant" ∷ "soixant" ∷ "septant" ∷ "huitant" ∷ "nonant" ∷ "mill" ∷ []
+    "dix" ∷ "onze" ∷ "douze" ∷ "treize" ∷ "quatorze" ∷ "quinze" ∷ "seize" ∷ "dix-sept" ∷ "dix-huit" ∷ "dix-neuf" ∷
+    "vingt" ∷ "trente" ∷ "quarante" ∷ "cinquante" ∷ "soixante" ∷ "septante" ∷ "huitante" ∷ "nonante" ∷ "cent" ∷
+    "quatre-vingt" ∷ "quatre-vingts" ∷ "et" ∷ "mille" ∷ "million" ∷ "millions" ∷ "milliard" ∷ "milliards" ∷
+    "billion" ∷ "billions" ∷ "billiard" ∷ "billiards" ∷ "trillion" ∷ "trillions" ∷ "trilliard" ∷ "trilliards" ∷
+    "quadrillion" ∷ "quadrillions" ∷ "quadrilliard" ∷ "quadrilliards" ∷ "quintillion" ∷ "quintillions" ∷
+    "quintilliard" ∷ "quintilliards" ∷ "sextillion" ∷ "sextillions" ∷ "sextilliard" ∷ "sextilliards" ∷ "septillion" ∷
+    "septillions" ∷ "septilliard" ∷ "septilliards" ∷ "octillion" ∷ "octillions" ∷ "octilliard" ∷ "octilliards" ∷
+    "nonillion" ∷ "nonillions" ∷ "nonilliard" ∷ "nonilliards" ∷ "décillion" ∷ "décillions" ∷ "décilliard" ∷
+    "décilliards" ∷ "unodécillion" ∷ "unodécillions" ∷ "unodécilliard" ∷ "unodécilliards" ∷ "duodécillion" ∷
+    "duodécillions" ∷ "duodécilliard" ∷ "duodécilliards" ∷ "trédécillion" ∷ "trédécillions" ∷ "trédécilliard" ∷
+    "trédécilliards" ∷ "quattuordécillion" ∷ "quattuordécillions" ∷ "quattuordécilliard" ∷ "quattuordécilliards" ∷
+    "quindécillion" ∷ "quindécillions" ∷ "quindécilliard" ∷ "quindécilliards" ∷ "sexdécillion" ∷ "sexdécillions" ∷
+    "sexdécilliard" ∷ "sexdécilliards" ∷ "deux cent" ∷ "deux cents" ∷ "trois cent" ∷ "trois cents" ∷ "quatre cent" ∷
+    "quatre cents" ∷ "cinq cent" ∷ "cinq cents" ∷ "six cent" ∷ "six cents" ∷ "sept cent" ∷ "sept cents" ∷
+    "huit cent" ∷ "huit cents" ∷ "neuf cent" ∷ "neuf cents" ∷ "deux-cent" ∷ "deux-cents" ∷ "trois-cent" ∷
+    "trois-cents" ∷ "quatre-cent" ∷ "quatre-cents" ∷ "cinq-cent" ∷ "cinq-cents" ∷ "six-cent" ∷ "six-cents" ∷
+    "sept-cent" ∷ "sept-cents" ∷ "huit-cent" ∷ "huit-cents" ∷ "neuf-cent" ∷ "neuf-cents" ∷ "premier" ∷ "ième" ∷
+    "quatr" ∷ "onz" ∷ "douz" ∷ "treiz" ∷ "quatorz" ∷ "quinz" ∷ "seiz" ∷ "trent" ∷ "quarant" ∷ "cinquant" ∷
+    "soixant" ∷ "septant" ∷ "huitant" ∷ "nonant" ∷ "mill" ∷ []

@@ -3,6 +3,7 @@
 use Prim.Native.Nat.{ℕ, zero, suc}
 use mathlib.Core.Path.{_≡_, refl, sym}
 use mathlib.Core.Bool.{true, false, not, and-true, and-false}
+use native.Mathlib.Omega.{arith}
 use borrow.Author.Tests.{eq-eqb, ne-eqb}
 use lib.Dec.{eqb}
 use Rattle.fr.specs.Rules.{isFeminine, isLowest, isMille, joiner, countsOn, fourTwenties, takesEt, isUne}
@@ -20,6 +21,11 @@ pub mille-not : (k : ℕ) → (k ≡ 1 → ⊥) → isMille k ≡ false
 mille-not zero n = refl
 mille-not (suc zero) n = absurd (n refl)
 mille-not (suc (suc k)) n = refl
+
+pub mille-other : (k : ℕ) → not (eqb k 1) ≡ not (isMille k)
+mille-other zero = refl
+mille-other (suc zero) = refl
+mille-other (suc (suc k)) = rw (ne-eqb (suc (suc k)) 1 (λ e. omega arith)) refl
 
 module _ (F : French) where
   pub joins-reformed : F .reformed ≡ 1 → 45 ≡ joiner F

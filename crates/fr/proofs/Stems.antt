@@ -25,7 +25,7 @@ stem? id r = numbered? r (withoutE (text id)) && ltb 0 (length (text id))
 
 -- the words that end in `e`, in the reverse order of the code's arms
 abbrev ends : List ℕ
-ends = 291 ∷ 283 ∷ 282 ∷ 281 ∷ 280 ∷ 279 ∷ 278 ∷ 277 ∷ 275 ∷ 274 ∷ 273 ∷ 272 ∷ 271 ∷ 270 ∷ 268 ∷ 262 ∷ []
+ends = 291 ∷ 286 ∷ 285 ∷ 284 ∷ 283 ∷ 282 ∷ 281 ∷ 280 ∷ 275 ∷ 274 ∷ 273 ∷ 272 ∷ 271 ∷ 270 ∷ 268 ∷ 262 ∷ []
 
 abbrev among : ℕ → List ℕ → Bool
 among id [] = false
@@ -40,9 +40,9 @@ not-among id [] n = refl
 not-among id (e ∷ es) n = rw (ne-eqb id e (n .1)) (not-among id es (n .0))
 
 others? : ℕ → Bool
-others? id = among id ends || (eqb id 290 || stem? id id)
+others? id = among id ends || (eqb id 389 || stem? id id)
 
-others-right : T (all 257 82 others?)
+others-right : T (all 257 148 others?)
 unfolding others? stem? withoutE
 others-right = tt
 
@@ -57,8 +57,8 @@ is-stem id r t =
 pub stem-same : (id : ℕ) → Known id → None id ends → Stem id id
 unfolding others?
 stem-same id k n =
-    let t = all-at 257 82 others? others-right id (k .0) (omega (arith, k .1)) in
-    is-stem id id (rw (not-among id ends n, ne-eqb id 290 (k .2)) at t)
+    let t = all-at 257 148 others? others-right id (k .0) (omega (arith, k .1)) in
+    is-stem id id (rw (not-among id ends n, ne-eqb id 389 (k .2)) at t)
 
 -- in the arm of a number stands the number of its stem
 pub stem-arm : {id k : ℕ} (r : ℕ) → id ≡ k → T (stem? k r) → Stem id r
@@ -67,8 +67,8 @@ stem-arm {id} {k} r e t = rw e (is-stem k r t)
 abbrev pub Right : ℕ → ℕ → Type 0
 Right k r = T (stem? k r)
 
-pub stems-right : Right 262 324 × Right 268 259 × Right 270 325 × Right 271 326 × Right 272 327 × Right 273 328 × Right 274 329 × Right 275 330
-    × Right 277 331 × Right 278 332 × Right 279 333 × Right 280 334 × Right 281 335 × Right 282 336 × Right 283 337 × Right 291 338
+pub stems-right : Right 262 390 × Right 268 259 × Right 270 391 × Right 271 392 × Right 272 393 × Right 273 394 × Right 274 395 × Right 275 396
+    × Right 280 397 × Right 281 398 × Right 282 399 × Right 283 400 × Right 284 401 × Right 285 402 × Right 286 403 × Right 291 404
 unfolding stem? withoutE
 stems-right = (tt, tt, tt, tt, tt, tt, tt, tt, tt, tt, tt, tt, tt, tt, tt, tt)
 

@@ -24,6 +24,10 @@ pub and-right : (a b : Bool) → T (a && b) → T b
 and-right true b t = t
 and-right false b t = absurd t
 
+pub split : (a b : Bool) → (a && b) ≡ true → (a ≡ true) × (b ≡ true)
+split true b e = (refl, e)
+split false b e = let z : _≡_ {A = ℕ} 0 1 = cc in absurd (omega arith)
+
 -- a test of each of the n numbers from lo on
 abbrev pub all : ℕ → ℕ → (ℕ → Bool) → Bool
 all lo zero f = true
@@ -64,14 +68,14 @@ below-of a b t = ltb-true a b (yes-of (ltb a b) t)
 
 -- the number of this word
 abbrev pub known? : ℕ → Bool
-known? id = ltb 256 id && (ltb id 339 && not (eqb id 290))
+known? id = ltb 256 id && (ltb id 405 && not (eqb id 389))
 
 known : (id : ℕ) → T (known? id) → Known id
 known id t =
-    let r = and-right (ltb 256 id) (ltb id 339 && not (eqb id 290)) t in (
-      below-of 256 id (and-left (ltb 256 id) (ltb id 339 && not (eqb id 290)) t),
-      below-of id 339 (and-left (ltb id 339) (not (eqb id 290)) r),
-      eqb-false id 290 (not-true (eqb id 290) (yes-of (not (eqb id 290)) (and-right (ltb id 339) (not (eqb id 290)) r))),
+    let r = and-right (ltb 256 id) (ltb id 405 && not (eqb id 389)) t in (
+      below-of 256 id (and-left (ltb 256 id) (ltb id 405 && not (eqb id 389)) t),
+      below-of id 405 (and-left (ltb id 405) (not (eqb id 389)) r),
+      eqb-false id 389 (not-true (eqb id 389) (yes-of (not (eqb id 389)) (and-right (ltb id 405) (not (eqb id 389)) r))),
     )
 
 abbrev pub numbered? : ℕ → Word → Bool

@@ -7,7 +7,7 @@ use Rattle.words.specs.Text.{text}
 
 -- a number of a French word, and not of the ending `ième`
 abbrev pub Known : ℕ → Type 0
-Known id = (256 < id) × (id < 339) × (id ≡ 290 → ⊥)
+Known id = (256 < id) × (id < 405) × (id ≡ 389 → ⊥)
 
 -- the number of this word
 pub record Numbered (id : ℕ) (w : Word) : Type 0 where

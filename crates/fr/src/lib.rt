@@ -1,12 +1,14 @@
-// The French words and rules that speller and reader share: the tables of word numbers, and the tests of document 01's rules.
+// The French words and rules that speller and reader share: the numbers of the words, and the tests of document 01's rules.
 ghost use mathlib.Core.Path.{_≡_};
-ghost use mathlib.Core.Bool.{false};
-ghost use Prim.Native.Nat.{_+_, _-_, _<_};
+ghost use mathlib.Core.Bool.{false, cond, not, _&&_, _||_};
+ghost use mathlib.Core.List.{[], _∷_, _++_};
+ghost use Prim.Native.Nat.{_+_, _-_, _≤_, _<_};
+ghost use lib.Dec.{eqb};
 ghost use lib.ListN.{length};
 ghost use Rattle.base.specs.Utf8.{utf8, form1};
 ghost use Rattle.words.specs.Text.{text};
-ghost use Rattle.fr.specs.FrTables.{teens, megas};
-ghost use Rattle.fr.specs.Rules.{joiner as joinerOf, countsOn, fourTwenties, takesEt, isUne, unitWord, tenWord};
+ghost use Rattle.fr.specs.FrTables.{units, teens, megas};
+ghost use Rattle.fr.specs.Rules.{isReformed, isMille, joiner as joinerOf, centWord, countsOn, fourTwenties, takesEt, isUne, unitWord, tenWord, roundWord};
 ghost use Rattle.fr.specs.Ordinal.{withoutE};
 ghost use Rattle.fr.specs.Numbered.{Known, Numbered};
 
@@ -17,61 +19,9 @@ pub struct French {
     pub region: u32,
 }
 
-// The numbers of the words, counted from the first French one. Units by digit, and `une`.
-const UNITS: [u8; 10] = [0, 3, 4, 5, 6, 7, 8, 9, 10, 11];
-
-const UNE: u8 = 12;
-
-// Teens that are one word, by digit.
-const TEENS: [u8; 7] = [13, 14, 15, 16, 17, 18, 19];
-
-// Tens that are one word, by region and digit.
-const TENS: [[u8; 10]; 3] = [
-    [0, 13, 20, 21, 22, 23, 24, 0, 0, 0],
-    [0, 13, 20, 21, 22, 23, 24, 25, 0, 27],
-    [0, 13, 20, 21, 22, 23, 24, 25, 26, 27],
-];
-
-// Scale words by order.
-const MEGAS: [u8; 34] = [
-    0,
-    35,
-    36,
-    37,
-    38,
-    39,
-    40,
-    41,
-    42,
-    43,
-    44,
-    45,
-    46,
-    47,
-    48,
-    49,
-    50,
-    51,
-    52,
-    53,
-    54,
-    55,
-    56,
-    57,
-    58,
-    59,
-    60,
-    61,
-    62,
-    63,
-    64,
-    65,
-    66,
-    67,
-];
-
-// The number of the n-th French word among all.
-fn word(n: u8) -> u16
+// The number of the n-th French word among all. The words stand in the bank in the order of what they count, so that a digit gives the number.
+fn word(n: usize) -> u16
+    requires { ⌜ n < 256 ⌝ }
     ensures { λ r. ⌜ r ≡ 256 + n ⌝ }
 {
     256 + n as u16
@@ -133,34 +83,82 @@ pub fn unit(f: French, order: usize, u: usize) -> u16
     ensures { λ r. ⌜ Numbered r (unitWord f order u) ⌝ }
 {
     if is_une(f, order, u) {
-        return word(UNE);
+        return word(12);
     }
-    word(UNITS[u])
+    word(2 + u)
 }
 
-// The word of a teen that is one word.
+// The word of a teen.
 pub fn teen(u: usize) -> u16
-    requires { ⌜ u < 7 ⌝ }
+    requires { ⌜ u < 10 ⌝ }
     ensures { λ r. ⌜ Numbered r (form1 teens u) ⌝ }
 {
-    word(TEENS[u])
+    word(13 + u)
 }
 
-// The word of a tens digit that is one word.
+// The word of a tens digit.
 pub fn ten(f: French, t: usize) -> u16
-    requires { ⌜ (1 < t) × (t < 10) × (f .region < 3) × (countsOn f t ≡ false) × (fourTwenties f t ≡ false) ⌝ }
+    requires { ⌜ (1 < t) × (t < 10) × (f .region < 3) × (countsOn f t ≡ false) ⌝ }
     ensures { λ r. ⌜ Numbered r (tenWord f t) ⌝ }
 {
-    let region = f.region as usize;
-    word(TENS[region][t])
+    if four_twenties(f, t) {
+        return word(32);
+    }
+    word(21 + t)
 }
 
-// The scale word of an order: the one place that names it.
-pub fn scale(order: usize) -> u16
-    requires { ⌜ (0 < order) × (order < 34) ⌝ }
-    ensures { λ r. ⌜ Numbered r (form1 megas (order - 1)) ⌝ }
+// The word of a tens digit that no unit follows.
+pub fn round(f: French, order: usize, t: usize) -> u16
+    requires { ⌜ (1 < t) × (t < 10) × (f .region < 3) × (countsOn f t ≡ false) ⌝ }
+    ensures { λ r. ⌜ Numbered r (roundWord f order t) ⌝ }
 {
-    word(MEGAS[order])
+    if order == 1 {
+        return ten(f, t);
+    }
+    if four_twenties(f, t) {
+        return word(33);
+    }
+    ten(f, t)
+}
+
+// Whether `cent` takes its `s`.
+fn takes_s(order: usize, below: usize) -> bool
+    ensures { λ r. ⌜ r ≡ (eqb below 0 && not (isMille order)) ⌝ }
+{
+    if below == 0 { order != 1 } else { false }
+}
+
+// The unit and `cent` or `cents` of a hundreds digit above 1.
+pub fn hundreds(f: French, order: usize, h: usize, below: usize) -> u16
+    requires { ⌜ (1 < h) × (h < 10) ⌝ }
+    ensures { λ r. ⌜ Numbered r (form1 units (h - 1) ++ (joinerOf f ∷ centWord order below)) ⌝ }
+{
+    let n = first_hundred(f) + 2 * h;
+    if takes_s(order, below) {
+        return word(n + 1);
+    }
+    word(n)
+}
+
+// Where the hundreds with this joiner begin.
+fn first_hundred(f: French) -> usize
+    ensures { λ r. ⌜ (r ≡ cond (isReformed f) 112 96) × (r ≤ 112) ⌝ }
+{
+    if f.reformed == 1 { 112 } else { 96 }
+}
+
+// The scale word of an order above a group, with its `s`: the one place that names it.
+pub fn scale(order: usize, g: usize) -> u16
+    requires { ⌜ (0 < order) × (order < 34) ⌝ }
+    ensures { λ r. ⌜ Numbered r (form1 megas (order - 1) ++ cond (isMille order || eqb g 1) [] (utf8 "s")) ⌝ }
+{
+    if order == 1 {
+        return word(35);
+    }
+    if g == 1 {
+        return word(32 + 2 * order);
+    }
+    word(33 + 2 * order)
 }
 
 // A word without its final `e`.
@@ -169,22 +167,22 @@ pub fn stem(id: u16) -> u16
     ensures { λ r. ⌜ Numbered r (withoutE (text id)) × (0 < length (text id)) ⌝ }
 {
     match id {
-        262 => 324,
+        262 => 390,
         268 => 259,
-        270 => 325,
-        271 => 326,
-        272 => 327,
-        273 => 328,
-        274 => 329,
-        275 => 330,
-        277 => 331,
-        278 => 332,
-        279 => 333,
-        280 => 334,
-        281 => 335,
-        282 => 336,
-        283 => 337,
-        291 => 338,
+        270 => 391,
+        271 => 392,
+        272 => 393,
+        273 => 394,
+        274 => 395,
+        275 => 396,
+        280 => 397,
+        281 => 398,
+        282 => 399,
+        283 => 400,
+        284 => 401,
+        285 => 402,
+        286 => 403,
+        291 => 404,
         _ => id,
     }
 }

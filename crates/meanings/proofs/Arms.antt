@@ -1,13 +1,9 @@
 -- A match over keys: what an arm gives, and what is left past the last.
 -- Assumes nothing.
-use Prim.Native.Nat.{ℕ, zero, suc, _+_, _/_, _<_, _≤_}
-use mathlib.Core.Path.{_≡_, refl, sym, ap, _∙_}
-use mathlib.Core.List.{List, [], _∷_}
-use native.Mathlib.Omega.{arith}
-use borrow.Author.Tests.{ne-eqb}
-use lib.Dec.{eqb}
-use lib.ListN.{length, getD, List·getD-eq-default}
-use Rattle.base.proofs.Arms as bank
+use Prim.Native.Nat.{ℕ, _%_}
+use mathlib.Core.Path.{_≡_, refl, sym, _∙_}
+use mathlib.Core.List.{[], _∷_}
+use borrow.Author.Tests.{eq-eqb, ne-eqb}
 use Rattle.meanings.specs.Lookup.{Entries, lookup, lookupIn}
 
 -- the key is none of the entries', which stand in the reverse order of the arms
@@ -24,14 +20,12 @@ missed key (e ∷ es) h = rw (ne-eqb key (e .0) (h .1)) (missed key es (h .0))
 pub found : {key k v : ℕ} (es : Entries) → key ≡ k → v ≡ lookup k es → v ≡ lookup key es
 found es e g = rw e g
 
--- a key is left to its part; past the last part nothing is found
-module _ (parts : List Entries) where
-  pub chosen : (key r j : ℕ) → key / 4096 ≡ j → r ≡ lookup key (getD parts j []) → r ≡ lookupIn parts key
+-- a key at its place, and one that is not there
+module _ (slots : ℕ) (keys values others : Entries) (key k r : ℕ) (e : k ≡ lookup (key % slots) keys) where
+  pub placed : k ≡ key → r ≡ lookup (key % slots) values → r ≡ lookupIn slots keys values others key
   unfolding lookupIn
-  chosen key r j e g = rw e g
+  placed f g = g ∙ rw (eq-eqb (lookup (key % slots) keys) key (sym e ∙ f)) refl
 
-  pub beyond : (n key : ℕ) → bank.None 0 (key / 4096) n → length parts ≤ n → 0 ≡ lookupIn parts key
-  unfolding lookupIn lookup
-  beyond n key t h =
-      let l : 0 + n ≤ key / 4096 = bank.beyond 0 (key / 4096) n t (omega arith) in
-      rw (List·getD-eq-default parts [] {n = key / 4096} (omega arith)) refl
+  pub elsewhere : (k ≡ key → ⊥) → r ≡ lookup key others → r ≡ lookupIn slots keys values others key
+  unfolding lookupIn
+  elsewhere f g = g ∙ rw (ne-eqb (lookup (key % slots) keys) key (λ z. f (e ∙ z))) refl

@@ -1,10 +1,9 @@
--- A number looked up by a key, in lists of which each has 4096 keys.
+-- A number looked up by a key.
 -- Assumes nothing.
-use Prim.Native.Nat.{ℕ, _/_}
+use Prim.Native.Nat.{ℕ, _%_}
 use mathlib.Core.Bool.{cond}
 use mathlib.Core.List.{List, [], _∷_}
 use lib.Dec.{eqb}
-use lib.ListN.{getD}
 
 -- keys with what they stand for
 abbrev pub Entries : Type 0
@@ -15,6 +14,6 @@ unfoldable pub lookup : ℕ → Entries → ℕ
 lookup key [] = 0
 lookup key (e ∷ es) = cond (eqb key (e .0)) (e .1) (lookup key es)
 
--- the same in the list that has the key
-unfoldable pub lookupIn : List Entries → ℕ → ℕ
-lookupIn parts key = lookup key (getD parts (key / 4096) [])
+-- the same where keys have places, by their rest at a number: in the tables, or, if another key has the place, in a list
+unfoldable pub lookupIn : ℕ → Entries → Entries → Entries → ℕ → ℕ
+lookupIn slots keys values others key = cond (eqb (lookup (key % slots) keys) key) (lookup (key % slots) values) (lookup key others)

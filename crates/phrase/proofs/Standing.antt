@@ -5,9 +5,10 @@ use mathlib.Core.Path.{_≡_, refl, sym, ap, _∙_}
 use mathlib.Core.Bool.{Bool, true, false, cond, _&&_}
 use mathlib.Core.List.{List, [], _∷_, _++_, append-nil, append-assoc}
 use native.Mathlib.Omega.{arith}
-use lib.Dec.{eqb}
-use lib.ListN.{length, getD, drop, length-append}
-use lib.Seq.{drop-append-seam}
+use lib.Dec.{eqb, eqb·suc-suc}
+use native.Mathlib.Numerals.{add-one}
+use lib.ListN.{length, getD, drop, length-append, length-drop, drop-of-length-le}
+use lib.Seq.{drop-append-seam, drop-cons, drop-drop}
 use borrow.Author.Tests.{eq-eqb, ne-eqb}
 use Rattle.base.specs.Decides.{Decides}
 use Rattle.words.specs.Text.{text}
@@ -41,6 +42,10 @@ passed-none w s n e z = go (begins w s) (sym z ∙ e)
 pub begins-within : (w s : List ℕ) → begins w s ≡ true → length w ≤ length s
 begins-within w s e = omega (arith, ap length (begins-is w s e), length-append w (drop (length w) s))
 
+-- what was passed lies within the text
+pub passed-within : (w s : List ℕ) (n : ℕ) → n ≡ passed w s → (n ≡ 0 → ⊥) → n - 1 ≤ length s
+passed-within w s n e z = let p = passed-some w s n e z in omega (arith, p .1, begins-within w s (p .0))
+
 -- the same text behind the same front
 pub cancel : (w s t : List ℕ) → w ++ s ≡ w ++ t → s ≡ t
 cancel w s t e = sym (drop-append-seam w s) ∙ ap (drop (length w)) e ∙ drop-append-seam w t
@@ -68,35 +73,41 @@ stands-own (p ∷ ps) =
     let w = gap (p .0) ++ p .1 in
     rw (begins-own w (following ps), drop-append-seam w (following ps)) (stands-own ps)
 
--- no pieces
-pub stands-none : (xs s : List ℕ) → length xs ≡ 0 → eqb (length s) 0 ≡ stands (pieces xs) s
+-- no pieces are left
+pub stands-end : (xs s : List ℕ) (i k : ℕ) → length xs ≤ i → k ≤ length s → eqb k (length s) ≡ stands (pieces (drop i xs)) (drop k s)
 unfolding stands pieces
-stands-none [] [] h = refl
-stands-none [] (b ∷ s) h = ne-eqb (length (b ∷ s)) 0 (λ e. omega arith)
-stands-none (x ∷ xs) s h = absurd (omega arith)
+stands-end xs s i k h l = rw (drop-of-length-le xs {i = i} h) (go s k l)
+  where
+    go : (t : List ℕ) (m : ℕ) → m ≤ length t → eqb m (length t) ≡ isNil (drop m t)
+    go [] zero l = refl
+    go [] (suc m) l = absurd (omega arith)
+    go (b ∷ t) zero l = ne-eqb 0 (length (b ∷ t)) (λ e. omega arith)
+    go (b ∷ t) (suc m) l = eqb·suc-suc m (length t) ∙ go t m (omega arith)
 
--- the first piece, and the part after it
-module _ (xs s : List ℕ) (h : length xs ≡ 0 → ⊥) where
-  first-stands : stands (pieces xs) s
-      ≡ cond (begins (following (pieceOf (getD xs 0 0) ∷ [])) s) (stands (pieces (from 1 xs)) (drop (length (following (pieceOf (getD xs 0 0) ∷ []))) s)) false
+-- the piece at i, and those after it
+module _ (xs s : List ℕ) (i k : ℕ) (h : i < length xs) (n : ℕ) (e : n ≡ passed (following (pieceOf (getD xs i 0) ∷ [])) (from k s)) where
+  here : stands (pieces (drop i xs)) (drop k s)
+      ≡ cond (begins (following (pieceOf (getD xs i 0) ∷ [])) (drop k s)) (stands (pieces (drop (suc i) xs)) (drop (length (following (pieceOf (getD xs i 0) ∷ []))) (drop k s))) false
   unfolding stands pieces following
-  first-stands = go xs h
-    where
-      go : (ys : List ℕ) → (length ys ≡ 0 → ⊥) → stands (pieces ys) s
-          ≡ cond (begins (following (pieceOf (getD ys 0 0) ∷ [])) s) (stands (pieces (from 1 ys)) (drop (length (following (pieceOf (getD ys 0 0) ∷ []))) s)) false
-      go [] k = absurd (k refl)
-      go (y ∷ ys) k = rw (from-is 1 (y ∷ ys), append-nil) refl
+  here = rw (drop-cons xs i 0 h, append-nil) refl
 
-  module _ (n : ℕ) (e : n ≡ passed (following (pieceOf (getD xs 0 0) ∷ [])) s) where
-    pub stands-not : n ≡ 0 → false ≡ stands (pieces xs) s
-    stands-not z = rw (first-stands, passed-none (following (pieceOf (getD xs 0 0) ∷ [])) s n e z) refl
+  known : n ≡ passed (following (pieceOf (getD xs i 0) ∷ [])) (drop k s)
+  known = rw (from-is k s) at e
 
-    pub stands-on : (n ≡ 0 → ⊥) → (b : Bool) → b ≡ stands (pieces (from 1 xs)) (from (n - 1) s) → b ≡ stands (pieces xs) s
-    stands-on z b f =
-        let p = passed-some (following (pieceOf (getD xs 0 0) ∷ [])) s n e z in
-        let m : n - 1 ≡ length (following (pieceOf (getD xs 0 0) ∷ [])) = omega (arith, p .1) in
-        f ∙ rw (first-stands, p .0, from-is (n - 1) s, m) refl
+  pub stands-not : n ≡ 0 → false ≡ stands (pieces (drop i xs)) (drop k s)
+  stands-not z = rw (here, passed-none (following (pieceOf (getD xs i 0) ∷ [])) (drop k s) n known z) refl
 
+  pub stands-on : (n ≡ 0 → ⊥) → stands (pieces (drop i xs)) (drop k s) ≡ stands (pieces (drop (i + 1) xs)) (drop (k + (n - 1)) s)
+  stands-on z =
+      let p = passed-some (following (pieceOf (getD xs i 0) ∷ [])) (drop k s) n known z in
+      let m : n - 1 ≡ length (following (pieceOf (getD xs i 0) ∷ [])) = omega (arith, p .1) in
+      here ∙ rw (p .0, m, add-one i, drop-drop) refl
+
+  pub stands-within : (n ≡ 0 → ⊥) → k ≤ length s → k + (n - 1) ≤ length s
+  stands-within z l = omega (arith, passed-within (following (pieceOf (getD xs i 0) ∷ [])) (drop k s) n known z, length-drop k s)
+
+-- the first word, and the pieces after it
+module _ (xs s : List ℕ) (h : length xs ≡ 0 → ⊥) where
   -- the first word of a phrase, and the part after it
   module _ (n : ℕ) (e : n ≡ passed (text (getD xs 0 0 / 256)) s) where
     pub first-not : n ≡ 0 → Decides false (phrase (pieces xs) ≡ s)
@@ -163,7 +174,3 @@ module _ (c : ℕ) (s : List ℕ) where
           let p = passed-some (text (c / 256)) (from 1 s) n e y in
           let g : n + 1 ≡ suc (suc (length (text (c / 256)))) = omega (arith, p .1) in
           g ∙ rw (spaced c h) (sym (passed-true ((c % 256) ∷ text (c / 256)) s (same-front ∙ p .0)))
-
--- what was passed lies within the text
-pub passed-within : (w s : List ℕ) (n : ℕ) → n ≡ passed w s → (n ≡ 0 → ⊥) → n - 1 ≤ length s
-passed-within w s n e z = let p = passed-some w s n e z in omega (arith, p .1, begins-within w s (p .0))

@@ -137,19 +137,21 @@ fn pass_piece(code: u32, s: &[u8]) -> usize
     if n == 0 { 0 } else { n + 1 }
 }
 
-// Whether s is made of these pieces, which follow others; each hands on the part of s after it.
+// Whether s is made of these pieces, which follow others; each turn hands on the part of s after the pieces before it.
 fn stand_following(plan: &[u32], s: &[u8]) -> bool
     ensures { λ r. ⌜ r ≡ standsAs (pieces (now (plan .entry))) (now (s .entry)) ⌝ }
 {
-    if plan.len() == 0 {
-        return s.len() == 0;
+    let mut k: usize = 0;
+    let mut i: usize = 0;
+    while i < plan.len() {
+        let n = pass_piece(plan[i], &s[k..]);
+        if n == 0 {
+            return false;
+        }
+        k = k + (n - 1);
+        i = i + 1;
     }
-    let n = pass_piece(plan[0], s);
-    if n == 0 {
-        return false;
-    }
-    let k = n - 1;
-    stand_following(&plan[1..], &s[k..])
+    k == s.len()
 }
 
 // Whether s is the phrase of a plan.

@@ -5,6 +5,7 @@ use mathlib.Core.Path.{_≡_, refl, sym, ap, _∙_}
 use mathlib.Core.Bool.{Bool, true, false}
 use mathlib.Core.List.{List, [], _∷_, _++_, append-nil, append-assoc}
 use native.Mathlib.Omega.{arith}
+use native.Mathlib.Numerals.{add-one}
 use borrow.Author.Tests.{eq-eqb, ne-eqb, lt-ltb, le-ltb, ltb-true, ltb-false}
 use lib.Dec.{ltb}
 use lib.ListN.{length, take, drop, set, length-drop, drop-of-length-le}
@@ -138,26 +139,19 @@ drop-stored [] k v h = absurd (omega arith)
 drop-stored (x ∷ xs) zero v h = refl
 drop-stored (x ∷ xs) (suc k) v h = drop-stored xs k v (omega arith)
 
-module _ (n v o : ℕ) (ms xs ys : List ℕ) (z : n ≡ 0 → ⊥) (h : n ≤ length xs) where
-  above : (gs : List ℕ) (x : ℕ) → ys ≡ gs ++ drop (n - 1) (set xs (n - 1) x) → ys ≡ (gs ++ (x ∷ [])) ++ drop n xs
-  above gs x e =
-      let s : suc (n - 1) ≡ n = omega arith in
-      e ∙ ap (λ (l : List ℕ). gs ++ l) (drop-stored xs (n - 1) x (omega arith) ∙ ap (λ (i : ℕ). x ∷ drop i xs) s) ∙ sym (append-assoc gs (x ∷ []) (drop n xs))
+module _ (k v o : ℕ) (ms xs : List ℕ) (h : k < length xs) where
+  above : (gs : List ℕ) (x : ℕ) → (gs ++ (x ∷ [])) ++ drop (k + 1) xs ≡ gs ++ drop k (set xs k x)
+  above gs x = append-assoc gs (x ∷ []) (drop (k + 1) xs) ∙ rw (add-one k, drop-stored xs k x h) refl
 
-  pub read-here : o ≡ n - 1 → (g : Group) → seems 0 0 ms ≡ g → ys ≡ reads (n - 1) g ++ drop (n - 1) (set xs (n - 1) v) → ys ≡ reads n (guess v o ms) ++ drop n xs
-  read-here e g f r =
-      let s : suc (n - 1) ≡ n = omega arith in
-      let q : reads n (guess v o ms) ≡ reads (n - 1) g ++ (v ∷ []) =
-      ap (λ (i : ℕ). reads i (guess v o ms)) (sym s) ∙ ap (λ (i : ℕ). reads (suc (n - 1)) (guess v i ms)) e ∙ reads-here (n - 1) v ms
-      ∙ ap (λ (x : Group). reads (n - 1) x ++ (v ∷ [])) f in
-      above (reads (n - 1) g) v r ∙ ap (λ (l : List ℕ). l ++ drop n xs) (sym q)
+  pub read-here : o ≡ k → (g : Group) → seems 0 0 ms ≡ g → reads (k + 1) (guess v o ms) ++ drop (k + 1) xs ≡ reads k g ++ drop k (set xs k v)
+  read-here e g f =
+      let q : reads (k + 1) (guess v o ms) ≡ reads k g ++ (v ∷ []) = rw (add-one k, e) (reads-here k v ms ∙ ap (λ (x : Group). reads k x ++ (v ∷ [])) f) in
+      ap (λ (l : List ℕ). l ++ drop (k + 1) xs) q ∙ above (reads k g) v
 
-  pub read-over : (o ≡ n - 1 → ⊥) → ys ≡ reads (n - 1) (guess v o ms) ++ drop (n - 1) (set xs (n - 1) 0) → ys ≡ reads n (guess v o ms) ++ drop n xs
-  read-over e r =
-      let s : suc (n - 1) ≡ n = omega arith in
-      let q : reads n (guess v o ms) ≡ reads (n - 1) (guess v o ms) ++ (0 ∷ []) =
-      ap (λ (i : ℕ). reads i (guess v o ms)) (sym s) ∙ reads-over (n - 1) (guess v o ms) e in
-      above (reads (n - 1) (guess v o ms)) 0 r ∙ ap (λ (l : List ℕ). l ++ drop n xs) (sym q)
+  pub read-over : (o ≡ k → ⊥) → reads (k + 1) (guess v o ms) ++ drop (k + 1) xs ≡ reads k (guess v o ms) ++ drop k (set xs k 0)
+  read-over e =
+      let q : reads (k + 1) (guess v o ms) ≡ reads k (guess v o ms) ++ (0 ∷ []) = rw (add-one k) (reads-over k (guess v o ms) e) in
+      ap (λ (l : List ℕ). l ++ drop (k + 1) xs) q ∙ above (reads k (guess v o ms)) 0
 
 -- all groups
 pub read-all : (g : Group) (ms xs ys : List ℕ) → length xs ≡ 34 → seems 0 0 ms ≡ g → ys ≡ reads 34 g ++ drop 34 xs → ys ≡ guessed ms

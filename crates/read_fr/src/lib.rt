@@ -3,7 +3,7 @@
 use fr::French;
 ghost use mathlib.Core.Path.{_≡_};
 ghost use mathlib.Core.List.{List, _∷_, _++_};
-ghost use Prim.Native.Nat.{ℕ, _-_, _≤_, _<_};
+ghost use Prim.Native.Nat.{ℕ, _+_, _-_, _%_, _≤_, _<_};
 ghost use lib.Dec.{ltb};
 ghost use lib.ListN.{length, drop};
 ghost use Rattle.base.specs.Decides.{Decides};
@@ -36,15 +36,23 @@ pub struct Seem {
     pub next: usize,
 }
 
+// The last two digits of a sum.
+fn sum(c: u16, m: u16) -> u16
+    requires { ⌜ (c < 100) × (m ≤ 100) ⌝ }
+    ensures { λ r. ⌜ r ≡ (c + m) % 100 ⌝ }
+{
+    if c + m < 100 { c + m } else { c + m - 100 }
+}
+
 // One more word of a number below a hundred.
 fn grow(c: u16, m: u16) -> u16
     requires { ⌜ (c < 100) × (m ≤ 100) ⌝ }
     ensures { λ r. ⌜ r ≡ growOf c m ⌝ }
 {
     if c == 4 {
-        if m == 20 { 80 } else { (c + m) % 100 }
+        if m == 20 { 80 } else { sum(c, m) }
     } else {
-        (c + m) % 100
+        sum(c, m)
     }
 }
 
@@ -52,7 +60,10 @@ fn grow(c: u16, m: u16) -> u16
 fn times(c: u16) -> u16
     ensures { λ r. ⌜ r ≡ timesOf c ⌝ }
 {
-    if c == 0 { 1 } else { c % 10 }
+    if c == 0 {
+        return 1;
+    }
+    if c < 10 { c } else { c % 10 }
 }
 
 // What a scale word is after the number v.
@@ -112,24 +123,40 @@ fn group(s: &[u8]) -> Seem
     }
 }
 
-// The groups below order n, from the highest down: the one at the front has this value and order, and s is behind it.
+// The group of order k, where the one at the front has this value and order, and s is behind it: what is at the front then.
+fn read_order(k: usize, value: u16, order: usize, s: &[u8], out: &mut [u16]) -> Seem
+    requires { ⌜ (k < length (now out)) × (value < 1000) ⌝ }
+    ensures { λ r. ⌜ reads (k + 1) (guessOf value order (meanings (now (s .entry)))) ++ drop (k + 1) (now (out .entry)) ≡ reads k (guessOf (r .value) (r .order) (meanings (drop (r .next) (now (s .entry))))) ++ drop k (now (out .exit)) ⌝ }
+    ensures { λ r. ⌜ (r .value < 1000) × (r .next ≤ length (now (s .entry))) ⌝ }
+{
+    if order == k {
+        out[k] = value;
+        return group(s);
+    }
+    out[k] = 0;
+    Seem {
+        value,
+        order,
+        next: 0,
+    }
+}
+
+// The groups below order n, from the highest down; each turn hands on the part of s behind the groups that it has read.
 fn read(n: usize, value: u16, order: usize, s: &[u8], out: &mut [u16])
     requires { ⌜ (n ≤ 34) × (n ≤ length (now out)) × (value < 1000) ⌝ }
     ensures { λ _. ⌜ now (out .exit) ≡ reads n (guessOf value order (meanings (now (s .entry)))) ++ drop n (now (out .entry)) ⌝ }
 {
-    if n == 0 {
-        return;
+    let mut front = value;
+    let mut of = order;
+    let mut at: usize = 0;
+    let mut left = n;
+    while 0 < left {
+        left = left - 1;
+        let g = read_order(left, front, of, &s[at..], out);
+        front = g.value;
+        of = g.order;
+        at = at + g.next;
     }
-    let k = n - 1;
-    if order == k {
-        out[k] = value;
-        let g = group(s);
-        let at = g.next;
-        read(k, g.value, g.order, &s[at..], out);
-        return;
-    }
-    out[k] = 0;
-    read(k, value, order, s, out);
 }
 
 // All groups.

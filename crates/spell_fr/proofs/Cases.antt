@@ -2,24 +2,20 @@
 -- Assumes nothing.
 use Prim.Native.Nat.{ℕ, zero, suc, _-_, _/_, _%_, _<_, _≤_}
 use mathlib.Core.Path.{_≡_, refl, sym, ap, _∙_}
-use mathlib.Core.Bool.{Bool, true, false, cond, not, _&&_, _||_}
+use mathlib.Core.Bool.{Bool, true, false, cond, _&&_, _||_}
 use mathlib.Core.List.{List, [], _∷_, _++_, append-nil, append-assoc}
 use native.Mathlib.Omega.{arith}
-use borrow.Author.Tests.{ne-eqb, eqb-true, not-true}
+use borrow.Author.Tests.{eqb-true}
 use lib.Dec.{eqb}
 use lib.ListN.{getD}
 use Rattle.base.specs.Utf8.{utf8, form1}
 use Rattle.base.specs.Join.{Word}
 use Rattle.fr.specs.FrTables.{units, tens, teens, megas}
-use Rattle.fr.specs.Rules.{isReformed, inFR, inCH, isMille, joiner, spacedBy, centWord, hundredWords, countsOn, tenWord, fourTwenties, roundWord, takesEt, link, unitWord, pairWord, lowWords, scaleWords, groupWords}
+use Rattle.fr.specs.Rules.{isReformed, inFR, isMille, joiner, spacedBy, centWord, hundredWords, countsOn, tenWord, roundWord, takesEt, link, unitWord, pairWord, lowWords, scaleWords, groupWords}
 use Rattle.fr.specs.Cardinal.{groupOf, groupsBelow, cardinalWords}
 use Rattle.fr.specs.declared.French.{French}
 use Rattle.fr.proofs.Deciders.{mille-not}
-use Rattle.spell_fr.specs.Link.{etPart, linkEnd}
-
-pub split : (a b : Bool) → (a && b) ≡ true → (a ≡ true) × (b ≡ true)
-split true b e = (refl, e)
-split false b e = let z : _≡_ {A = ℕ} 0 1 = cc in absurd (omega arith)
+use Rattle.fr.proofs.Tests.{split}
 
 either : {P : Type 0} (a b : Bool) → (a || b) ≡ true → (a ≡ true → P) → (b ≡ true → P) → P
 either true b e f g = f refl
@@ -34,18 +30,6 @@ alone : (j : ℕ) (w : Word) → j ∷ w ≡ spacedBy j (w ∷ [])
 alone j w = ap (λ (l : List ℕ). j ∷ l) (sym (append-nil w))
 
 -- hundreds
-pub cent-mille : (k b : ℕ) → b ≡ 0 → k ≡ 1 → utf8 "cent" ≡ centWord k b
-unfolding centWord
-cent-mille k b z e = rw (z, e) refl
-
-pub cents-round : (k b : ℕ) → b ≡ 0 → (k ≡ 1 → ⊥) → utf8 "cents" ≡ centWord k b
-unfolding centWord
-cents-round k b z n = rw (z, mille-not k n) refl
-
-pub cent-more : (k b : ℕ) → (b ≡ 0 → ⊥) → utf8 "cent" ≡ centWord k b
-unfolding centWord
-cent-more k b n = rw (ne-eqb b 0 n) refl
-
 module _ (j k b : ℕ) where
   pub hundred-none : (h : ℕ) → h ≡ 0 → [] ≡ spacedBy j (hundredWords k h b)
   unfolding hundredWords
@@ -55,83 +39,28 @@ module _ (j k b : ℕ) where
   unfolding hundredWords
   hundred-one h e = rw e refl
 
-  pub hundred-some : (F : French) (h : ℕ) → (h ≡ 0 → ⊥) → (h ≡ 1 → ⊥) → (j ∷ unitWord F 1 h) ++ (j ∷ centWord k b) ≡ spacedBy j (hundredWords k h b)
-  unfolding hundredWords unitWord
-  hundred-some F zero m n = absurd (m refl)
-  hundred-some F (suc zero) m n = absurd (n refl)
-  hundred-some F (suc (suc h)) m n =
+  pub hundred-some : (h : ℕ) → (h ≡ 0 → ⊥) → (h ≡ 1 → ⊥) → j ∷ (form1 units (h - 1) ++ (j ∷ centWord k b)) ≡ spacedBy j (hundredWords k h b)
+  unfolding hundredWords
+  hundred-some zero m n = absurd (m refl)
+  hundred-some (suc zero) m n = absurd (n refl)
+  hundred-some (suc (suc h)) m n =
       let e : suc (suc h) - 1 ≡ suc h = omega arith in
       rw (e, append-nil (centWord k b)) refl
 
--- teens of two pieces
-pub teen-two : (F : French) (s u : ℕ) → 7 ≤ u → u < 10 → (s ∷ form1 teens 0) ++ (45 ∷ unitWord F 1 u) ≡ s ∷ form1 teens u
-unfolding form1 teens units unitWord
-teen-two F s zero a b = absurd (omega arith)
-teen-two F s (suc zero) a b = absurd (omega arith)
-teen-two F s (suc (suc zero)) a b = absurd (omega arith)
-teen-two F s (suc (suc (suc zero))) a b = absurd (omega arith)
-teen-two F s (suc (suc (suc (suc zero)))) a b = absurd (omega arith)
-teen-two F s (suc (suc (suc (suc (suc zero))))) a b = absurd (omega arith)
-teen-two F s (suc (suc (suc (suc (suc (suc zero)))))) a b = absurd (omega arith)
-teen-two F s (suc (suc (suc (suc (suc (suc (suc zero))))))) a b = refl
-teen-two F s (suc (suc (suc (suc (suc (suc (suc (suc zero)))))))) a b = refl
-teen-two F s (suc (suc (suc (suc (suc (suc (suc (suc (suc zero))))))))) a b = refl
-teen-two F s (suc (suc (suc (suc (suc (suc (suc (suc (suc (suc u)))))))))) a b = absurd (omega arith)
-
 module _ (F : French) where
-  -- tens
-  pub ten-twenties : (t : ℕ) → fourTwenties F t ≡ true → (joiner F ∷ utf8 "quatre") ++ (45 ∷ utf8 "vingt") ≡ joiner F ∷ tenWord F t
-  unfolding tenWord form1 tens
-  ten-twenties t e =
-      let p = split (eqb t 8) (not (inCH F)) e in
-      rw (eqb-true t 8 (p .0), not-true (inCH F) (p .1)) refl
-
-  pub round-mille : (k t : ℕ) → k ≡ 1 → joiner F ∷ tenWord F t ≡ joiner F ∷ roundWord F k t
-  unfolding roundWord
-  round-mille k t e = rw e (go (fourTwenties F t))
-    where
-      go : (b : Bool) → joiner F ∷ tenWord F t ≡ joiner F ∷ cond (b && false) (utf8 "quatre-vingts") (tenWord F t)
-      go true = refl
-      go false = refl
-
-  pub round-twenties : (k t : ℕ) → (k ≡ 1 → ⊥) → fourTwenties F t ≡ true → (joiner F ∷ utf8 "quatre") ++ (45 ∷ utf8 "vingts") ≡ joiner F ∷ roundWord F k t
-  unfolding roundWord
-  round-twenties k t n e = rw (e, mille-not k n) refl
-
-  pub round-other : (k t : ℕ) → fourTwenties F t ≡ false → joiner F ∷ tenWord F t ≡ joiner F ∷ roundWord F k t
-  unfolding roundWord
-  round-other k t e = rw e refl
-
-  -- the link
-  module _ (t u : ℕ) where
-    pub et-some : takesEt F t u ≡ true → joiner F ∷ utf8 "et" ≡ etPart F t u
-    unfolding etPart
-    et-some e = rw e refl
-
-    pub et-none : takesEt F t u ≡ false → [] ≡ etPart F t u
-    unfolding etPart
-    et-none e = rw e refl
-
-    pub end-et : takesEt F t u ≡ true → joiner F ≡ linkEnd F t u
-    unfolding linkEnd
-    end-et e = rw e refl
-
-    pub end-hyphen : takesEt F t u ≡ false → 45 ≡ linkEnd F t u
-    unfolding linkEnd
-    end-hyphen e = rw e refl
-
-    link-is : (w : Word) → etPart F t u ++ (linkEnd F t u ∷ w) ≡ link F t u ++ w
-    unfolding etPart linkEnd link
-    link-is w = go (takesEt F t u) (isReformed F)
+  -- the link from a tens word to the word w
+  module _ (t u : ℕ) (w : Word) where
+    pub link-et : takesEt F t u ≡ true → (joiner F ∷ utf8 "et") ++ (joiner F ∷ w) ≡ link F t u ++ w
+    unfolding link
+    link-et e = rw e (go (isReformed F))
       where
-        go : (a b : Bool) → cond a (cond b 45 32 ∷ utf8 "et") [] ++ (cond a (cond b 45 32) 45 ∷ w) ≡ cond a (cond b (utf8 "-et-") (utf8 " et ")) (utf8 "-") ++ w
-        go true true = refl
-        go true false = refl
-        go false b = refl
+        go : (b : Bool) → (cond b 45 32 ∷ utf8 "et") ++ (cond b 45 32 ∷ w) ≡ cond b (utf8 "-et-") (utf8 " et ") ++ w
+        go true = refl
+        go false = refl
 
-    -- a tens word, the link, and what follows
-    linked : (a w : Word) → (joiner F ∷ a) ++ (etPart F t u ++ (linkEnd F t u ∷ w)) ≡ joiner F ∷ (a ++ (link F t u ++ w))
-    linked a w = ap (λ (l : List ℕ). joiner F ∷ (a ++ l)) (link-is w)
+    pub link-hyphen : takesEt F t u ≡ false → 45 ∷ w ≡ link F t u ++ w
+    unfolding link
+    link-hyphen e = rw e refl
 
   -- tens and units
   pub counts-below : (t : ℕ) → countsOn F t ≡ true → countsOn F (t - 1) ≡ false
@@ -144,10 +73,6 @@ module _ (F : French) where
       let p = split (inFR F) (eqb t 7 || eqb t 9) e in
       either (eqb t 7) (eqb t 9) (p .1) (λ q. omega (arith, eqb-true t 7 q)) (λ q. omega (arith, eqb-true t 9 q))
 
-  no-et : (t : ℕ) (w : Word) → etPart F t 0 ++ (linkEnd F t 0 ∷ w) ≡ 45 ∷ w
-  unfolding etPart linkEnd
-  no-et t w = refl
-
   counted-round : (k t : ℕ) → countsOn F t ≡ true → tenWord F (t - 1) ++ (45 ∷ form1 teens 0) ≡ roundWord F k t
   unfolding tenWord roundWord form1 tens teens
   counted-round k t e =
@@ -156,15 +81,12 @@ module _ (F : French) where
       either (eqb t 7) (eqb t 9) (p .1) (λ q. rw (eqb-true t 7 q, r) refl) (λ q. rw (eqb-true t 9 q, r) refl)
 
   pub counted : (k t u : ℕ) → 1 < t → countsOn F t ≡ true
-      → (joiner F ∷ tenWord F (t - 1)) ++ (etPart F t u ++ (linkEnd F t u ∷ form1 teens u)) ≡ spacedBy (joiner F) (lowWords F k t u)
-  unfolding lowWords pairWord
+      → (joiner F ∷ tenWord F (t - 1)) ++ (link F t u ++ form1 teens u) ≡ spacedBy (joiner F) (lowWords F k t u)
+  unfolding lowWords pairWord link
   counted k zero u h e = absurd (omega arith)
   counted k (suc zero) u h e = absurd (omega arith)
-  counted k (suc (suc t)) zero h e =
-      ap (λ (l : List ℕ). (joiner F ∷ tenWord F (suc (suc t) - 1)) ++ l) (no-et (suc (suc t)) (form1 teens 0))
-      ∙ ap (λ (l : List ℕ). joiner F ∷ l) (counted-round k (suc (suc t)) e) ∙ alone (joiner F) (roundWord F k (suc (suc t)))
-  counted k (suc (suc t)) (suc u) h e =
-      linked (suc (suc t)) (suc u) (tenWord F (suc (suc t) - 1)) (form1 teens (suc u)) ∙ rw e (alone (joiner F) _)
+  counted k (suc (suc t)) zero h e = ap (λ (l : List ℕ). joiner F ∷ l) (counted-round k (suc (suc t)) e) ∙ alone (joiner F) (roundWord F k (suc (suc t)))
+  counted k (suc (suc t)) (suc u) h e = rw e (alone (joiner F) _)
 
   pub round-low : (k t u : ℕ) → 1 < t → u ≡ 0 → joiner F ∷ roundWord F k t ≡ spacedBy (joiner F) (lowWords F k t u)
   unfolding lowWords
@@ -174,12 +96,12 @@ module _ (F : French) where
   round-low k (suc (suc t)) (suc u) h e = absurd (omega arith)
 
   pub pair-low : (k t u : ℕ) → 1 < t → (u ≡ 0 → ⊥) → countsOn F t ≡ false
-      → (joiner F ∷ tenWord F t) ++ (etPart F t u ++ (linkEnd F t u ∷ unitWord F k u)) ≡ spacedBy (joiner F) (lowWords F k t u)
+      → (joiner F ∷ tenWord F t) ++ (link F t u ++ unitWord F k u) ≡ spacedBy (joiner F) (lowWords F k t u)
   unfolding lowWords pairWord
   pair-low k zero u h n e = absurd (omega arith)
   pair-low k (suc zero) u h n e = absurd (omega arith)
   pair-low k (suc (suc t)) zero h n e = absurd (n refl)
-  pair-low k (suc (suc t)) (suc u) h n e = linked (suc (suc t)) (suc u) (tenWord F (suc (suc t))) (unitWord F k (suc u)) ∙ rw e (alone (joiner F) _)
+  pair-low k (suc (suc t)) (suc u) h n e = rw e (alone (joiner F) _)
 
   pub teen-low : (k t u : ℕ) → t ≡ 1 → joiner F ∷ form1 teens u ≡ spacedBy (joiner F) (lowWords F k t u)
   unfolding lowWords
@@ -207,27 +129,13 @@ module _ (j k g : ℕ) where
   unfolding scaleWords
   scale-none e = rw e refl
 
-  pub scale-mille : k ≡ 1 → j ∷ form1 megas (k - 1) ≡ spacedBy j (scaleWords k g)
+  pub scale-some : (k ≡ 0 → ⊥) → j ∷ (form1 megas (k - 1) ++ cond (isMille k || eqb g 1) [] (utf8 "s")) ≡ spacedBy j (scaleWords k g)
   unfolding scaleWords
-  scale-mille e = rw (e, append-nil (form1 megas 0)) (alone j (form1 megas 0))
-
-  pub scale-one : (k ≡ 0 → ⊥) → (k ≡ 1 → ⊥) → g ≡ 1 → j ∷ form1 megas (k - 1) ≡ spacedBy j (scaleWords k g)
-  unfolding scaleWords
-  scale-one n m e = rw e (go k n m)
+  scale-some n = go k n
     where
-      go : (k : ℕ) → (k ≡ 0 → ⊥) → (k ≡ 1 → ⊥) → j ∷ form1 megas (k - 1) ≡ spacedBy j (scaleWords k 1)
-      go zero n m = absurd (n refl)
-      go (suc zero) n m = absurd (m refl)
-      go (suc (suc k)) n m = let e : suc (suc k) - 1 ≡ suc k = omega arith in rw (e, append-nil (form1 megas (suc k))) (alone j (form1 megas (suc k)))
-
-  pub scale-plural : (k ≡ 0 → ⊥) → (k ≡ 1 → ⊥) → (g ≡ 1 → ⊥) → j ∷ (form1 megas (k - 1) ++ utf8 "s") ≡ spacedBy j (scaleWords k g)
-  unfolding scaleWords
-  scale-plural n m d = go k n m
-    where
-      go : (k : ℕ) → (k ≡ 0 → ⊥) → (k ≡ 1 → ⊥) → j ∷ (form1 megas (k - 1) ++ utf8 "s") ≡ spacedBy j (scaleWords k g)
-      go zero n m = absurd (n refl)
-      go (suc zero) n m = absurd (m refl)
-      go (suc (suc k)) n m = let e : suc (suc k) - 1 ≡ suc k = omega arith in rw (e, ne-eqb g 1 d) (alone j (form1 megas (suc k) ++ utf8 "s"))
+      go : (k : ℕ) → (k ≡ 0 → ⊥) → j ∷ (form1 megas (k - 1) ++ cond (isMille k || eqb g 1) [] (utf8 "s")) ≡ spacedBy j (scaleWords k g)
+      go zero n = absurd (n refl)
+      go (suc k) n = let e : suc k - 1 ≡ k = omega arith in rw e (alone j (form1 megas k ++ cond (isMille (suc k) || eqb g 1) [] (utf8 "s")))
 
 -- a group
 pub bare-mille : (k g : ℕ) → k ≡ 1 → eqb g 1 ≡ (isMille k && eqb g 1)
@@ -249,9 +157,12 @@ module _ (F : French) (j k g : ℕ) where
       go (suc g) n e = rw e refl
 
   pub group-full : (g ≡ 0 → ⊥) → (isMille k && eqb g 1) ≡ false
-      → spacedBy j (hundredWords k (g / 100 % 10) (g % 100)) ++ (spacedBy j (lowWords F k (g / 10 % 10) (g % 10)) ++ spacedBy j (scaleWords k g)) ≡ spacedBy j (groupOf F k g)
+      → spacedBy j (hundredWords k (g / 100 % 10) (g % 100)) ++ (spacedBy j (lowWords F k (g % 100 / 10) (g % 100 % 10)) ++ spacedBy j (scaleWords k g)) ≡ spacedBy j (groupOf F k g)
   unfolding groupWords
-  group-full n e = go g n e
+  group-full n e =
+      let t : g % 100 / 10 ≡ g / 10 % 10 = omega arith in
+      let u : g % 100 % 10 ≡ g % 10 = omega arith in
+      rw (t, u) (go g n e)
     where
       go : (g : ℕ) → (g ≡ 0 → ⊥) → (isMille k && eqb g 1) ≡ false
           → spacedBy j (hundredWords k (g / 100 % 10) (g % 100)) ++ (spacedBy j (lowWords F k (g / 10 % 10) (g % 10)) ++ spacedBy j (scaleWords k g)) ≡ spacedBy j (groupOf F k g)

@@ -65,8 +65,8 @@ module _ {k n : ℕ} {xs ys b : List ℕ} (t : Told k xs 0 ys n b) where
         rw g at (known-at (t .codes) (n - 1) (t .known) m)
 
     -- the stem in its place, and the ending behind it
-    module _ {a r stem : ℕ} {zs vs : List ℕ} (p : Pushed ys (n - 1) zs a (getD ys (n - 1) 0 % 256) stem) (q : Pushed zs a vs r 0 290) where
-      pub ended : Numbered stem (withoutE (text (getD ys (n - 1) 0 / 256))) → 0 < length (text (getD ys (n - 1) 0 / 256)) → text 290 ≡ utf8 "ième"
+    module _ {a r stem : ℕ} {zs vs : List ℕ} (p : Pushed ys (n - 1) zs a (getD ys (n - 1) 0 % 256) stem) (q : Pushed zs a vs r 0 389) where
+      pub ended : Numbered stem (withoutE (text (getD ys (n - 1) 0 / 256))) → 0 < length (text (getD ys (n - 1) 0 / 256)) → text 389 ≡ utf8 "ième"
           → phrase (says vs r) ≡ nth (phrase (says ys n))
       unfolding says pieces pieceOf
       ended d w i =
@@ -74,8 +74,8 @@ module _ {k n : ℕ} {xs ys b : List ℕ} (t : Told k xs 0 ys n b) where
           let s = c % 256 in
           let x : (stem * 256 + s) % 256 ≡ s = omega arith in
           let y : (stem * 256 + s) / 256 ≡ stem = omega arith in
-          let f : take r vs ≡ (take (n - 1) ys ++ ((stem * 256 + s) ∷ [])) ++ ((290 * 256 + 0) ∷ []) = q .more ∙ ap (λ (l : List ℕ). l ++ ((290 * 256 + 0) ∷ [])) (p .more) in
+          let f : take r vs ≡ (take (n - 1) ys ++ ((stem * 256 + s) ∷ [])) ++ ((389 * 256 + 0) ∷ []) = q .more ∙ ap (λ (l : List ℕ). l ++ ((389 * 256 + 0) ∷ [])) (p .more) in
           ap (λ (l : List ℕ). phrase (map pieceOf l)) f
-          ∙ rw (map-append pieceOf (take (n - 1) ys ++ ((stem * 256 + s) ∷ [])) ((290 * 256 + 0) ∷ []), map-append pieceOf (take (n - 1) ys) ((stem * 256 + s) ∷ []), x, y, d .says, i)
+          ∙ rw (map-append pieceOf (take (n - 1) ys ++ ((stem * 256 + s) ∷ [])) ((389 * 256 + 0) ∷ []), map-append pieceOf (take (n - 1) ys) ((stem * 256 + s) ∷ []), x, y, d .says, i)
           (ending (map pieceOf (take (n - 1) ys)) s (text (c / 256)) w)
           ∙ ap (λ (l : List Piece). nth (phrase l)) (sym (ap (map pieceOf) last-is ∙ map-append pieceOf (take (n - 1) ys) (c ∷ [])))

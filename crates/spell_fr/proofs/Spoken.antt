@@ -12,11 +12,11 @@ use Rattle.base.specs.Bank.{textIn}
 use Rattle.bank_fr.specs.Names.{names}
 use Rattle.words.specs.Text.{text}
 use Rattle.fr.specs.Rules.{isReformed, joiner}
-use Rattle.fr.specs.Numbered.{Numbered}
+use Rattle.fr.specs.Numbered.{Known, Numbered}
 use Rattle.fr.specs.declared.French.{French}
 use Rattle.fr.proofs.Tests.{numbered?, numbered}
 use Rattle.spell_fr.specs.Told.{Pushed, Told}
-use Rattle.spell_fr.proofs.Tells.{told-word, told-ended}
+use Rattle.spell_fr.proofs.Tells.{told-word}
 
 named : (id : ℕ) (w : String) → T (numbered? id (utf8 w)) → Numbered id (utf8 w)
 named id w t = numbered id (utf8 w) t
@@ -29,40 +29,24 @@ pub moins : Numbered 258 (utf8 "moins")
 unfolding text textIn names
 moins = named 258 "moins" tt
 
-pub quatre : Numbered 262 (utf8 "quatre")
+pub cent : Numbered 287 (utf8 "cent")
 unfolding text textIn names
-quatre = named 262 "quatre" tt
+cent = named 287 "cent" tt
 
-pub vingt : Numbered 276 (utf8 "vingt")
+pub et : Numbered 290 (utf8 "et")
 unfolding text textIn names
-vingt = named 276 "vingt" tt
+et = named 290 "et" tt
 
-pub vingts : Numbered 284 (utf8 "vingts")
+pub premier : Numbered 388 (utf8 "premier")
 unfolding text textIn names
-vingts = named 284 "vingts" tt
+premier = named 388 "premier" tt
 
-pub cent : Numbered 285 (utf8 "cent")
-unfolding text textIn names
-cent = named 285 "cent" tt
-
-pub cents : Numbered 286 (utf8 "cents")
-unfolding text textIn names
-cents = named 286 "cents" tt
-
-pub et : Numbered 287 (utf8 "et")
-unfolding text textIn names
-et = named 287 "et" tt
-
-pub plural-s : Numbered 288 (utf8 "s")
-unfolding text textIn names
-plural-s = named 288 "s" tt
-
-pub premier : Numbered 289 (utf8 "premier")
-unfolding text textIn names
-premier = named 289 "premier" tt
+-- a word by its own text
+pub own : (id : ℕ) → Known id → Numbered id (text id)
+own id k = record { says = refl; known = k }
 
 -- the ending is no word of its own
-pub ième : text 290 ≡ utf8 "ième"
+pub ième : text 389 ≡ utf8 "ième"
 unfolding text textIn names
 ième = refl
 
@@ -84,7 +68,3 @@ module _ (F : French) where
 
   pub told-joined : {n r s id : ℕ} {xs ys w : List ℕ} → Pushed xs n ys r s id → s ≡ joiner F → Numbered id w → Told 1 xs n ys r (joiner F ∷ w)
   told-joined {n = n} {r = r} {id = id} {xs = xs} {ys = ys} p e d = told-word (subst (λ (s : ℕ). Pushed xs n ys r s id) e p) joiner-byte joiner-some d
-
-  pub told-plural : {n m r s id v : ℕ} {xs ys zs a b : List ℕ} → Pushed xs n ys m s id → s ≡ joiner F → Pushed ys m zs r 0 v → Numbered id a → Numbered v b
-      → Told 2 xs n zs r (joiner F ∷ (a ++ b))
-  told-plural {n = n} {m = m} {id = id} {xs = xs} {ys = ys} p e q d f = told-ended (subst (λ (s : ℕ). Pushed xs n ys m s id) e p) q joiner-byte joiner-some d f

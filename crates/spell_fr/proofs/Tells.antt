@@ -70,7 +70,7 @@ tell {n = n} {xs = xs} i p q h = record {
 pub retell : {k n r : ℕ} {xs ys a b : List ℕ} (i : ℕ) → Told k xs n ys r a → k ≤ i → a ≡ b → Told i xs n ys r b
 retell i p h e = record { codes = p .codes; near = omega (arith, p .near); more = p .more; known = p .known; opens = p .opens; speaks = p .speaks ∙ e }
 
--- a word behind a separator; a word with an ending that runs on
+-- a word behind a separator
 pub told-word : {n r s id : ℕ} {xs ys w : List ℕ} → Pushed xs n ys r s id → s < 256 → 0 < s → Numbered id w → Told 1 xs n ys r (s ∷ w)
 told-word {s = s} {id = id} {w = w} p h z d = record {
   codes = (id * 256 + s) ∷ [];
@@ -79,19 +79,6 @@ told-word {s = s} {id = id} {w = w} p h z d = record {
   known = (code-known s id h (d .known), tt);
   opens = code-opens s id h z;
   speaks = piece s id w h (d .says) ∙ gap-some s w z;
-}
-
-pub told-ended : {n m r s id v : ℕ} {xs ys zs a b : List ℕ} → Pushed xs n ys m s id → Pushed ys m zs r 0 v → s < 256 → 0 < s → Numbered id a → Numbered v b
-    → Told 2 xs n zs r (s ∷ (a ++ b))
-told-ended {n = n} {m = m} {s = s} {id = id} {v = v} {xs = xs} {a = a} {b = b} p q h z d e = record {
-  codes = (id * 256 + s) ∷ (v * 256 + 0) ∷ [];
-  near = omega (arith, p .next, q .next);
-  more = q .more ∙ ap (λ (l : List ℕ). l ++ ((v * 256 + 0) ∷ [])) (p .more) ∙ append-assoc (take n xs) ((id * 256 + s) ∷ []) ((v * 256 + 0) ∷ []);
-  known = (code-known s id h (d .known), (code-known 0 v (omega arith) (e .known), tt));
-  opens = code-opens s id h z;
-  speaks =
-      pieces-append ((id * 256 + s) ∷ []) ((v * 256 + 0) ∷ [])
-      ∙ rw (piece s id a h (d .says), piece 0 v b (omega arith) (e .says), gap-some s a z) refl;
 }
 
 -- the phrase of a plan from its beginning

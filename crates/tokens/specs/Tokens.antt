@@ -1,10 +1,12 @@
 -- A text taken word by word: words end at a space or a hyphen. What a reader makes of a text from these is held against the grammar's own
 -- words afterwards, so nothing here has to be believed.
 -- Assumes nothing.
-use Prim.Native.Nat.{ℕ, _+_, _*_, _%_}
+use Prim.Native.Nat.{ℕ, _+_, _*_, _%_, _<_, _≤_}
+use mathlib.Core.Path.{_≡_}
 use mathlib.Core.Bool.{Bool, true, false, cond, _||_}
 use mathlib.Core.List.{List, [], _∷_}
 use lib.Dec.{eqb}
+use lib.ListN.{length, drop}
 use Rattle.base.specs.Join.{Word}
 
 -- a space or a hyphen
@@ -37,3 +39,17 @@ keyFrom h (b ∷ w) = keyFrom ((h * 371 + b) % 65536) w
 
 abbrev pub key : Word → ℕ
 key w = keyFrom 0 w
+
+-- no gap stands before i in the first word of s, and k is the key of what does
+abbrev pub Begun : List ℕ → ℕ → ℕ → Type 0
+Begun s i k = (key (firstWord s) ≡ keyFrom k (firstWord (drop i s))) × (afterWord s ≡ afterWord (drop i s))
+
+-- k is the key of the first word of s, and the next word starts at n
+abbrev pub Took : List ℕ → ℕ → ℕ → Type 0
+Took s k n = ((k ≡ key (firstWord s)) × (k < 65536)) × ((drop n s ≡ afterWord s) × (n ≤ length s) × (0 < length s → 0 < n))
+
+-- n bytes from i on were looked at: the word ended among them, or goes on
+pub record Turned (s : List ℕ) (i n : ℕ) (ended : Bool) (k next : ℕ) : Type 0 where
+  pub small : k < 65536
+  pub ends : ended ≡ true → Took s k next
+  pub goes-on : ended ≡ false → Begun s (i + n) k

@@ -2,7 +2,7 @@
 ghost use mathlib.Core.Path.{_≡_};
 ghost use Prim.Native.Nat.{_+_, _*_, _%_, _≤_, _<_};
 ghost use lib.ListN.{length, drop};
-ghost use Rattle.tokens.specs.Tokens.{isGap, firstWord, afterWord, keyFrom, key};
+ghost use Rattle.tokens.specs.Tokens.{isGap, firstWord, afterWord, key, Begun, Turned};
 
 // The key of a text's first word, and how many bytes the word and the gap behind it have.
 pub struct Token {
@@ -29,56 +29,98 @@ fn step(h: u32, b: u8) -> u32
     (h * 371 + b as u32) % 65536
 }
 
-// The end of the first word of a text, of which at most one byte, at i, was not looked at; h is the key of those before.
-fn last(s: &[u8], i: usize, h: u32) -> Token
-    requires { ⌜ (i ≤ length (now s)) × (length (now s) ≤ i + 1) × (h < 65536) ⌝ }
-    requires { ⌜ (key (firstWord (now s)) ≡ keyFrom h (firstWord (drop i (now s)))) × (afterWord (now s) ≡ afterWord (drop i (now s))) ⌝ }
-    ensures { λ r. ⌜ (r .key ≡ key (firstWord (now (s .entry)))) × (r .key < 65536) ⌝ }
-    ensures { λ r. ⌜ (drop (r .next) (now (s .entry)) ≡ afterWord (now (s .entry))) × (r .next ≤ length (now (s .entry))) × (0 < length (now (s .entry)) → 0 < r .next) ⌝ }
+// What some bytes of a word show: whether a gap ends it, its key so far, and where the next byte stands.
+struct Turn {
+    ended: bool,
+    key: u32,
+    next: usize,
+}
+
+// The byte at i of a text's first word, which has the key h before it.
+fn one(s: &[u8], i: usize, h: u32) -> Turn
+    requires { ⌜ (i < length (now s)) × (h < 65536) × Begun (now s) i h ⌝ }
+    ensures { λ r. ⌜ Turned (now (s .entry)) i 1 (r .ended) (r .key) (r .next) ⌝ }
 {
-    if i < s.len() {
-        let b = s[i];
-        if is_gap(b) {
-            return Token {
-                key: h,
-                next: i + 1,
-            };
-        }
-        return Token {
-            key: step(h, b),
+    let b = s[i];
+    if is_gap(b) {
+        return Turn {
+            ended: true,
+            key: h,
             next: i + 1,
         };
     }
-    Token { key: h, next: i }
+    Turn {
+        ended: false,
+        key: step(h, b),
+        next: i + 1,
+    }
 }
 
-// The first word of a text. Two bytes a turn: the loop is where a reader spends its time.
+// Two bytes from i on.
+fn two(s: &[u8], i: usize, h: u32) -> Turn
+    requires { ⌜ (i + 2 ≤ length (now s)) × (h < 65536) × Begun (now s) i h ⌝ }
+    ensures { λ r. ⌜ Turned (now (s .entry)) i 2 (r .ended) (r .key) (r .next) ⌝ }
+{
+    let t = one(s, i, h);
+    if t.ended {
+        return t;
+    }
+    one(s, i + 1, t.key)
+}
+
+// Four bytes from i on.
+fn four(s: &[u8], i: usize, h: u32) -> Turn
+    requires { ⌜ (i + 4 ≤ length (now s)) × (h < 65536) × Begun (now s) i h ⌝ }
+    ensures { λ r. ⌜ Turned (now (s .entry)) i 4 (r .ended) (r .key) (r .next) ⌝ }
+{
+    let t = two(s, i, h);
+    if t.ended {
+        return t;
+    }
+    two(s, i + 2, t.key)
+}
+
+// The end of a text's first word, which has the key h before i.
+fn last(s: &[u8], i: usize, h: u32) -> Token
+    requires { ⌜ (i ≤ length (now s)) × (h < 65536) × Begun (now s) i h ⌝ }
+    ensures { λ r. ⌜ (r .key ≡ key (firstWord (now (s .entry)))) × (r .key < 65536) ⌝ }
+    ensures { λ r. ⌜ (drop (r .next) (now (s .entry)) ≡ afterWord (now (s .entry))) × (r .next ≤ length (now (s .entry))) × (0 < length (now (s .entry)) → 0 < r .next) ⌝ }
+{
+    let mut k = h;
+    let mut j = i;
+    while j < s.len() {
+        let t = one(s, j, k);
+        if t.ended {
+            return Token {
+                key: t.key,
+                next: t.next,
+            };
+        }
+        k = t.key;
+        j += 1;
+    }
+    Token { key: k, next: j }
+}
+
+// The first word of a text. Four bytes a turn: the loop is where a reader spends its time.
 pub fn first(s: &[u8]) -> Token
     ensures { λ r. ⌜ (r .key ≡ key (firstWord (now (s .entry)))) × (r .key < 65536) ⌝ }
     ensures { λ r. ⌜ (drop (r .next) (now (s .entry)) ≡ afterWord (now (s .entry))) × (r .next ≤ length (now (s .entry))) × (0 < length (now (s .entry)) → 0 < r .next) ⌝ }
 {
     let n = s.len();
-    let pairs = n - n % 2;
+    let fours = n - n % 4;
     let mut h: u32 = 0;
     let mut i: usize = 0;
-    while i < pairs {
-        let b = s[i];
-        if is_gap(b) {
+    while i < fours {
+        let t = four(s, i, h);
+        if t.ended {
             return Token {
-                key: h,
-                next: i + 1,
+                key: t.key,
+                next: t.next,
             };
         }
-        let k = step(h, b);
-        let c = s[i + 1];
-        if is_gap(c) {
-            return Token {
-                key: k,
-                next: i + 2,
-            };
-        }
-        h = step(k, c);
-        i += 2;
+        h = t.key;
+        i += 4;
     }
     last(s, i, h)
 }

@@ -1,7 +1,8 @@
--- `fr::ten` meets its contract: the table holds the words.
+-- `fr::ten` meets its contract: `quatre-vingt`, or the word of the digit.
 -- Assumes nothing.
 use borrow.Author.Needs.{needs}
-use Rattle.fr.proofs.Tables.{ten-word}
+use mathlib.Core.Path.{sym, _∙_}
+use Rattle.fr.proofs.Tables.{ten-word, twenties-word}
 use Rattle.fr.proofs.ten.Statement.{statement}
 use Rattle.fr.proofs.ten.Tie as tie
 
@@ -9,9 +10,9 @@ pub ten-spec : {M : Type 1} → statement M
 ten-spec =
     tie.close
     (tie.spec
-    (λ c. search needs)
-    (λ c. search needs)
-    (λ c. search needs)
+    (λ c κs. search needs)
+    (λ c κs. search needs)
+    (λ c. let a = c .before .before .before .args in rw (c .word .ensures) (twenties-word (a .f) (a .t) (sym (c .before .before .four-twenties .ensures) ∙ c .before .if1 .taken)))
     (λ c. search needs)
     (λ c κs. search needs)
-    (λ c. let s = c .before .before .before in rw (c .word .ensures) (ten-word (s .args .f) (s .args .t) (s .pre .2) (s .pre .0) (s .pre .1) (s .pre .3) (s .pre .4))))
+    (λ c. let s = c .before .before .before in rw (c .word2 .ensures) (ten-word (s .args .f) (s .args .t) (s .pre .2) (s .pre .0) (s .pre .1) (s .pre .3) (sym (c .before .before .four-twenties .ensures) ∙ c .before .if1 .left))))

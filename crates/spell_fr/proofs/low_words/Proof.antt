@@ -3,7 +3,7 @@
 use borrow.Author.Needs.{needs}
 use native.Mathlib.Omega.{arith}
 use Rattle.spell_fr.proofs.Tells.{quiet, retell}
-use Rattle.spell_fr.proofs.Spoken.{joiner-some}
+use Rattle.spell_fr.proofs.Spoken.{told-joined}
 use Rattle.spell_fr.proofs.Cases.{teen-low, none-low, unit-low}
 use Rattle.spell_fr.proofs.low_words.Statement.{statement}
 use Rattle.spell_fr.proofs.low_words.Tie as tie
@@ -12,15 +12,8 @@ pub low-words-spec : {M : Type 1} → statement M
 low-words-spec =
     tie.close
     (tie.spec
-    (λ c κs. search needs)
-    (λ c. search needs)
-    (λ c. search needs)
-    (λ c κs. search needs)
-    (λ c κs. let s = c .before .before .before .before .before in (s .pre .1, rw (c .before .joiner .ensures) (joiner-some (s .args .f)), omega (arith, s .pre .3)))
-    (λ c. search needs)
-    (λ c. let s = c .before .before .before .before .before .before .before .before in retell 5 (c .before .before .teen-word .ensures) (omega arith) (rw (c .before .before .before .before .joiner .ensures) (teen-low (s .args .f) (s .args .order) (s .args .t) (s .args .u) (c .before .before .before .before .before .if2 .taken))))
-    (λ c. let s = c .before .before .before .before in retell 5 (quiet 5 _ _) (omega arith) (none-low (s .args .f) (s .args .order) (s .args .t) (s .args .u) (c .before .before .if1 .left) (c .before .if2 .left) (c .if3 .taken)))
-    (λ c κs. search needs)
-    (λ c κs. let s = c .before .before .before .before .before .before in (omega (arith, c .before .before .if3 .left), s .pre .1, rw (c .before .joiner2 .ensures) (joiner-some (s .args .f)), omega (arith, s .pre .3)))
-    (λ c. search needs)
-    (λ c. let s = c .before .before .before .before .before .before .before .before .before in retell 5 (c .before .before .unit-word .ensures) (omega arith) (rw (c .before .before .before .before .joiner2 .ensures) (unit-low (s .args .f) (s .args .order) (s .args .t) (s .args .u) (c .before .before .before .before .before .before .before .if1 .left) (c .before .before .before .before .before .before .if2 .left) (c .before .before .before .before .before .if3 .left)))))
+    (λ c κs. search needs) (λ c. search needs) (λ c. search needs) (λ c κs. search needs) (λ c κs. search needs) (λ c. search needs)
+    (λ c. let s = c .before .before .before .before .before .before .before .before in let a = s .args in retell 3 (told-joined (a .f) (c .before .before .say .ensures) (s .pre .0) (c .before .before .before .teen .ensures)) (omega arith) (teen-low (a .f) (a .order) (a .t) (a .u) (c .before .before .before .before .before .if2 .taken)))
+    (λ c. let a = c .before .before .before .before .args in retell 3 (quiet 3 _ _) (omega arith) (none-low (a .f) (a .order) (a .t) (a .u) (c .before .before .if1 .left) (c .before .if2 .left) (c .if3 .taken)))
+    (λ c κs. search needs) (λ c κs. search needs) (λ c. search needs)
+    (λ c. let s = c .before .before .before .before .before .before .before .before .before in let a = s .args in retell 3 (told-joined (a .f) (c .before .before .say2 .ensures) (s .pre .0) (c .before .before .before .unit .ensures)) (omega arith) (unit-low (a .f) (a .order) (a .t) (a .u) (c .before .before .before .before .before .before .before .if1 .left) (c .before .before .before .before .before .before .if2 .left) (c .before .before .before .before .before .if3 .left))))

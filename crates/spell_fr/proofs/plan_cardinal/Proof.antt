@@ -11,7 +11,7 @@ use Rattle.spell_fr.proofs.plan_cardinal.Tie as tie
 returns : tie.Need-returns
 unfolding cardinalPhrase
 returns c =
-    let s = c .before .before .before .before .before in
+    let s = c .before .before .before .before .before .before in
     let t = c .before .before .plan-words .ensures in
     (omega (arith, t .near), told-phrase (joiner (s .args .f)) (cardinalWords (s .args .f) (s .args .zero) (s .args .negative) (s .args .gs .now)) t)
 
@@ -19,6 +19,7 @@ pub plan-cardinal-spec : {M : Type 1} → statement M
 plan-cardinal-spec =
     tie.close
     (tie.spec
+    (λ c κs. search needs)
     (λ c κs. search needs)
     (λ c. search needs)
     returns)

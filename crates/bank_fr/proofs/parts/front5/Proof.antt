@@ -1,9 +1,8 @@
 -- `bank_fr::parts::front5` meets its contract: in the arm of a number it compares with the text with that number.
 -- Assumes nothing.
 use borrow.Author.Needs.{needs}
-use lib.Dec.{lit≤}
 use Rattle.base.specs.Bank.{textIn}
-use Rattle.base.proofs.Arms.{fronts, after-last}
+use Rattle.base.proofs.Arms.{fronts, out-of}
 use Rattle.bank_fr.specs.Names.{names}
 use Rattle.bank_fr.proofs.parts.front5.Statement.{statement}
 use Rattle.bank_fr.proofs.parts.front5.Tie as tie
@@ -16,7 +15,33 @@ front5-spec =
     (λ c κs. search needs)
     (λ c κs. search needs)
     (λ c κs. search needs)
-    (λ c. fronts names _ _ (c .before .match .keys1) (c .pass-07 .ensures))
-    (λ c. fronts names _ _ (c .before .match .keys2) (c .pass-06 .ensures))
-    (λ c. fronts names _ _ (c .before .match .keys3) (c .pass-04 .ensures))
-    (λ c. after-last names 80 _ 3 _ (c .match .rest) (c .before .before .pre .0) (lit≤ tt)))
+    (λ c κs. search needs)
+    (λ c κs. search needs)
+    (λ c κs. search needs)
+    (λ c κs. search needs)
+    (λ c κs. search needs)
+    (λ c κs. search needs)
+    (λ c κs. search needs)
+    (λ c κs. search needs)
+    (λ c κs. search needs)
+    (λ c κs. search needs)
+    (λ c κs. search needs)
+    (λ c κs. search needs)
+    (λ c κs. search needs)
+    (λ c. fronts names _ _ (c .before .match .keys1) (c .pass-13 .ensures))
+    (λ c. fronts names _ _ (c .before .match .keys2) (c .pass-14 .ensures))
+    (λ c. fronts names _ _ (c .before .match .keys3) (c .pass-142 .ensures))
+    (λ c. fronts names _ _ (c .before .match .keys4) (c .pass-15 .ensures))
+    (λ c. fronts names _ _ (c .before .match .keys5) (c .pass-143 .ensures))
+    (λ c. fronts names _ _ (c .before .match .keys6) (c .pass-152 .ensures))
+    (λ c. fronts names _ _ (c .before .match .keys7) (c .pass-153 .ensures))
+    (λ c. fronts names _ _ (c .before .match .keys8) (c .pass-16 .ensures))
+    (λ c. fronts names _ _ (c .before .match .keys9) (c .pass-18 .ensures))
+    (λ c. fronts names _ _ (c .before .match .keys10) (c .pass-19 .ensures))
+    (λ c. fronts names _ _ (c .before .match .keys11) (c .pass-192 .ensures))
+    (λ c. fronts names _ _ (c .before .match .keys12) (c .pass-20 .ensures))
+    (λ c. fronts names _ _ (c .before .match .keys13) (c .pass-144 .ensures))
+    (λ c. fronts names _ _ (c .before .match .keys14) (c .pass-154 .ensures))
+    (λ c. fronts names _ _ (c .before .match .keys15) (c .pass-155 .ensures))
+    (λ c. fronts names _ _ (c .before .match .keys16) (c .pass-162 .ensures))
+    (λ c. absurd (out-of 80 _ 16 (c .match .rest) (c .before .before .pre .0) (c .before .before .pre .1))))
