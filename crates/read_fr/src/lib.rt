@@ -141,22 +141,18 @@ fn read_order(k: usize, value: u16, order: usize, s: &[u8], out: &mut [u16]) -> 
     }
 }
 
-// The groups below order n, from the highest down; each turn hands on the part of s behind the groups that it has read.
+// The groups below order n, from the highest down: each call has one order fewer, and hands on the part of s behind what it has read.
 fn read(n: usize, value: u16, order: usize, s: &[u8], out: &mut [u16])
     requires { ⌜ (n ≤ 34) × (n ≤ length (now out)) × (value < 1000) ⌝ }
     ensures { λ _. ⌜ now (out .exit) ≡ reads n (guessOf value order (meanings (now (s .entry)))) ++ drop n (now (out .entry)) ⌝ }
 {
-    let mut front = value;
-    let mut of = order;
-    let mut at: usize = 0;
-    let mut left = n;
-    while 0 < left {
-        left = left - 1;
-        let g = read_order(left, front, of, &s[at..], out);
-        front = g.value;
-        of = g.order;
-        at = at + g.next;
+    if n == 0 {
+        return;
     }
+    let k = n - 1;
+    let g = read_order(k, value, order, s, out);
+    let at = g.next;
+    read(k, g.value, g.order, &s[at..], out);
 }
 
 // All groups.
