@@ -14,6 +14,7 @@ use Rattle.spell_fr.proofs.groups.Reads as groups-reads
 use Rattle.spell_fr.proofs.groups.Kinds as groups-kinds
 use Rattle.spell_fr.proofs.+groups.Lts-groups as groups-lts
 use Rattle.spell_fr.proofs.group.Reads as group-reads
+use Rattle.fr.proofs.joiner.Reads as fr-joiner-reads
 use Rattle.spell_fr.proofs.+groups.{statement}
 use Rattle.spell_fr.proofs.+groups.Tie.{close}
 
@@ -30,19 +31,17 @@ pub +groups-spec : {M : Type 1} → statement M
 unfolding groupsBelow
 +groups-spec =
     close μ λ t.
-    groups-lts.spec (group-reads.Asked, group-reads.Learnt, below t, groups-reads.Post) (at t) groups-reads.Post
+    groups-lts.spec (fr-joiner-reads.Asked, fr-joiner-reads.Learnt, group-reads.Asked, group-reads.Learnt, below t, groups-reads.Post) (at t) groups-reads.Post
     (λ c. rw (c .if1 .taken) (quiet _ _ _))
-    (λ c. search needs)
-    (λ c. search needs)
-    (λ c. search needs)
-    (λ c κs. let s = c .before .before .before .before in (s .pre .1 .0, omega arith, omega (arith, s .pre .1 .2)))
+    (λ c. search needs) (λ c κs. search needs) (λ c. search needs) (λ c. search needs)
+    (λ c κs. let s = c .before .before .before .before .before in (c .before .before .joiner .ensures, s .pre .1 .0, omega arith, omega (arith, s .pre .1 .2)))
     (λ c κs.
-    let s = c .before .before .before .before .before .before .before .before in
+    let s = c .before .before .before .before .before .before .before .before .before in
     let p = c .before .before .before .group in
-    (omega (arith, s .pre .0), (s .pre .1 .0, omega arith, omega (arith, s .pre .1 .2, p .ensures .near, p .kept .1 .1 .1 .0))))
-    (λ c. c .before .before .groups .kept .1 .1 .1 .0 ∙ c .before .before .before .before .before .before .group .kept .1 .1 .1 .0)
+    (omega (arith, s .pre .0), (s .pre .1 .0, omega arith, omega (arith, s .pre .1 .2, p .ensures .near, p .kept .1 .1 .1 .1 .0))))
+    (λ c. c .before .before .groups .kept .1 .1 .1 .0 ∙ c .before .before .before .before .before .before .group .kept .1 .1 .1 .1 .0)
     (λ c.
-    let s = c .before .before .before .before .before .before .before .before .before .before .before in
+    let s = c .before .before .before .before .before .before .before .before .before .before .before .before in
     let n = s .args .n in
-    let z = c .before .before .before .before .before .before .before .before .before .if1 .left in
-    retell (9 * n) (tell (9 * n) (c .before .before .before .before .before .before .group .ensures) (c .before .before .groups .ensures) (omega (arith, z))) (omega arith) (groups-more (s .args .f) (joiner (s .args .f)) n _ z))
+    let z = c .before .before .before .before .before .before .before .before .before .before .if1 .left in
+    retell (5 * n) (tell (5 * n) (c .before .before .before .before .before .before .group .ensures) (c .before .before .groups .ensures) (omega (arith, z))) (omega arith) (groups-more (s .args .f) (joiner (s .args .f)) n _ z))
