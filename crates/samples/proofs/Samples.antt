@@ -13,7 +13,7 @@ use Rattle.base.specs.Join.{joined}
 use Rattle.tables.proofs.Tests.{same, clash}
 use Rattle.tokens.specs.Tokens.{firstWord, afterWord, split, keyFrom}
 use Rattle.meanings.specs.Lookup.{lookup, lookupIn}
-use Rattle.meanings_uk.specs.Meanings.{parts, meaningOf}
+use Rattle.meanings_uk.specs.Meanings.{keys, values, others, meaningOf}
 use Rattle.figures.specs.Groups.{groupsOf, total}
 use Rattle.uk.specs.UkTables.{zeros, gendered, units, teenBases, teenFlexions, tens, hundreds, thousandFlexions, megaBases, megaFlexions}
 use Rattle.uk.specs.Ukrainian.{unitForm, teenForm, scaleEnding, nounForm, ukrainian}
@@ -62,15 +62,15 @@ abbrev twoThousand : List ℕ
 twoThousand = utf8 "два тисячі"
 
 unsigned-two : signed (split twoThousand) ≡ false
-unfolding firstWord afterWord split keyFrom lookup lookupIn parts meaningOf taken sums
+unfolding firstWord afterWord split keyFrom lookup lookupIn keys values others meaningOf taken sums
 unsigned-two = refl
 
 unsigned-words : unsigned (split twoThousand) ≡ split twoThousand
-unfolding firstWord afterWord split keyFrom lookup lookupIn parts meaningOf
+unfolding firstWord afterWord split keyFrom lookup lookupIn keys values others meaningOf
 unsigned-words = refl
 
 taken-two : taken 0 (split twoThousand) ≡ closed 2 1 []
-unfolding firstWord afterWord split keyFrom lookup lookupIn parts meaningOf taken
+unfolding firstWord afterWord split keyFrom lookup lookupIn keys values others meaningOf taken
 taken-two = refl
 
 -- no group above order 1
