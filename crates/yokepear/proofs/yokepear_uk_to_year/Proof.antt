@@ -7,4 +7,4 @@ use Rattle.yokepear.proofs.yokepear_uk_to_year.Tie as tie
 
 pub yokepear-uk-to-year-spec : {M : Type 1} → statement M
 yokepear-uk-to-year-spec =
-    tie.close (tie.spec (λ c κs. search needs) (λ c. search needs) (λ c. rw (toZ-ofZ (c .before .before .before .before .before .fits .year)) at (c .before .before .to-year .ensures)))
+    tie.close (tie.spec (λ c κs. search needs) (λ c. search needs) (λ c. rw (toZ-ofZ (c .before .before .before .before .before .fits .year)) at (c .before .before .to-year .ensures .0)))
