@@ -29,33 +29,34 @@ fn is_soft(text: &[u8]) -> bool
 }
 
 // Writes the digits, a hyphen and the ending with this number.
-fn put(text: &[u8], ending: u32, out: &mut [u8])
+fn put(text: &[u8], ending: u32, out: &mut [u8]) -> usize
     requires { ⌜ length (now text ++ (45 ∷ textOf ending)) ≤ length (now out) ⌝ }
-    ensures { λ _. ⌜ now (out .exit) ≡ over (now (out .entry)) (now (text .entry) ++ (45 ∷ textOf ending)) ⌝ }
+    ensures { λ r. ⌜ (r ≡ length (now (text .entry) ++ (45 ∷ textOf ending))) × (now (out .exit) ≡ over (now (out .entry)) (now (text .entry) ++ (45 ∷ textOf ending))) ⌝ }
 {
     let n = bytes::copy(text, out);
     out[n] = 45;
     let k = n + 1;
-    words::put(ending, &mut out[k..]);
+    let m = words::put(ending, &mut out[k..]);
+    k + m
 }
 
-// The digit ordinal of an admitted text: measured first, and written where out holds it.
+// The digit ordinal of an admitted text, written where out holds it. It is measured first where out might not: no ending has 40 bytes.
 pub fn say(settings: Settings, text: &[u8], out: &mut [u8]) -> Answer
     requires { ⌜ ((settings .gender < 3) × (settings .number < 2) × (settings .case < 6)) × (digits (now text) ≡ true) × (0 < length (now text)) × (length (now text) ≤ 39) ⌝ }
     ensures { λ r. ⌜ Answers r (now (out .entry)) (now (out .exit)) (fitted (now (out .entry)) (digitOrdinal (settings .gender) (settings .number) (settings .case) (now (text .entry)))) ⌝ }
     ensures { λ r. ⌜ r .length ≤ 12320 ⌝ }
 {
     let ending = ordinal::short_ending(is_soft(text), settings) as u32;
-    let size = text.len() + 1 + words::len(ending);
-    if out.len() < size {
-        return Answer {
-            number: 7,
-            length: size,
-        };
+    let n = text.len() + 1;
+    if out.len() < n + 40 {
+        let size = n + words::len(ending);
+        if out.len() < size {
+            return Answer {
+                number: 7,
+                length: size,
+            };
+        }
     }
-    put(text, ending, out);
-    Answer {
-        number: 0,
-        length: size,
-    }
+    let length = put(text, ending, out);
+    Answer { number: 0, length }
 }
