@@ -64,8 +64,14 @@ unfolding meanings split
 no-meanings [] h = refl
 no-meanings (b ∷ s) h = absurd (omega arith)
 
+pub past-end : (s : List ℕ) (at : ℕ) → length s ≤ at → meanings (drop at s) ≡ []
+past-end s at h = no-meanings (drop at s) (rw (length-drop at s) (omega arith))
+
 -- a step of the walk: a word, or the end
 module _ (s : List ℕ) (at : ℕ) (w : Found) (e : w ≡ found s at) where
+  pub more-at : at < length s → w .more ≡ true
+  more-at h = ap (λ (x : Found). x .more) e ∙ lt-ltb at (length s) h
+
   pub stands : w .more ≡ true → at < length s
   stands m = ltb-true at (length s) (sym (ap (λ (x : Found). x .more) e) ∙ m)
 
@@ -82,8 +88,7 @@ module _ (s : List ℕ) (at : ℕ) (w : Found) (e : w ≡ found s at) where
 
   pub at-end : w .more ≡ false → meanings (drop at s) ≡ []
   at-end m =
-      let h : length s ≤ at = ltb-false at (length s) (sym (ap (λ (x : Found). x .more) e) ∙ m) in
-      no-meanings (drop at s) (rw (length-drop at s) (omega arith))
+      past-end s at (ltb-false at (length s) (sym (ap (λ (x : Found). x .more) e) ∙ m))
 
 -- the first step
 module _ (s : List ℕ) (w : Found) (e : w ≡ found s 0) (m : w .more ≡ true) where

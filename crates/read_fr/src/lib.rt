@@ -100,8 +100,8 @@ fn group(s: &[u8]) -> Seem
     let mut h: u16 = 0;
     let mut c: u16 = 0;
     let mut at: usize = 0;
-    let mut w = walker::word(s, 0);
-    while w.more {
+    while at < s.len() {
+        let w = walker::word(s, at);
         let m = meanings_fr::meaning(w.key);
         at += w.next;
         if 100 < m {
@@ -114,7 +114,6 @@ fn group(s: &[u8]) -> Seem
         let k = add(h, c, m);
         h = k.h;
         c = k.c;
-        w = walker::word(s, at);
     }
     Seem {
         value: 100 * h + c,
@@ -141,18 +140,22 @@ fn read_order(k: usize, value: u16, order: usize, s: &[u8], out: &mut [u16]) -> 
     }
 }
 
-// The groups below order n, from the highest down: each call has one order fewer, and hands on the part of s behind what it has read.
+// The groups below order n, from the highest down; each turn hands on the part of s behind the groups that it has read.
 fn read(n: usize, value: u16, order: usize, s: &[u8], out: &mut [u16])
     requires { ⌜ (n ≤ 34) × (n ≤ length (now out)) × (value < 1000) ⌝ }
     ensures { λ _. ⌜ now (out .exit) ≡ reads n (guessOf value order (meanings (now (s .entry)))) ++ drop n (now (out .entry)) ⌝ }
 {
-    if n == 0 {
-        return;
+    let mut front = value;
+    let mut of = order;
+    let mut at: usize = 0;
+    let mut left = n;
+    while 0 < left {
+        left = left - 1;
+        let g = read_order(left, front, of, &s[at..], out);
+        front = g.value;
+        of = g.order;
+        at = at + g.next;
     }
-    let k = n - 1;
-    let g = read_order(k, value, order, s, out);
-    let at = g.next;
-    read(k, g.value, g.order, &s[at..], out);
 }
 
 // All groups.

@@ -163,17 +163,20 @@ fn group(f: French, j: u8, order: usize, g: u16, plan: &mut [u32], at: usize) ->
     scale_words(j, order, n, plan, b)
 }
 
-// The groups below order n, from the highest down: each call has one order fewer.
+// The groups below order n, from the highest down.
 fn groups(f: French, n: usize, gs: &[u16; 34], plan: &mut [u32], at: usize) -> usize
     requires { ⌜ (f .region < 3) × (n ≤ 34) × (at + 5 * n ≤ length (now plan)) ⌝ }
     ensures { λ r. ⌜ Told (5 * n) (now (plan .entry)) at (now (plan .exit)) r (spacedBy (joiner f) (groupsBelow f n (now (gs .entry)))) ⌝ }
 {
-    if n == 0 {
-        return at;
+    let j = fr::joiner(f);
+    let mut k = at;
+    let mut left = n;
+    while 0 < left {
+        let order = left - 1;
+        k = group(f, j, order, gs[order], plan, k);
+        left = order;
     }
-    let order = n - 1;
-    let k = group(f, fr::joiner(f), order, gs[order], plan, at);
-    groups(f, order, gs, plan, k)
+    k
 }
 
 // The orders up to the highest group that is not 0.
