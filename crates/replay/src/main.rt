@@ -1,4 +1,4 @@
-// A list of lines with the answers that the published Rust gives: `stdin` and `stdout`, made by tools/make_replay.sh.
+// A list of lines with their answers, the phrases as the published Rust says them: `stdin` and `stdout`, made by tools/make_replay.sh.
 fn main() {
     blocks::answer_input();
 }
