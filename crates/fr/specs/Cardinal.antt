@@ -14,16 +14,16 @@ abbrev pub groupOf : French → ℕ → ℕ → List Word
 groupOf F order zero = []
 groupOf F order (suc g) = groupWords F order (suc g)
 
--- the groups below an order, from the highest down
+-- the groups below an order, from the highest down ("Groups fall as above")
 unfoldable pub groupsBelow : French → ℕ → List ℕ → List Word
 groupsBelow F zero gs = []
 groupsBelow F (suc k) gs = groupOf F k (getD gs k 0) ++ groupsBelow F k gs
 
--- zero is `zéro`; negative begins `moins`; then the groups
+-- zero is `zéro`; negative begins `moins`; then the groups, 34 of them ("Number texts")
 unfoldable pub cardinalWords : French → Bool → Bool → List ℕ → List Word
 cardinalWords F isZero isNegative gs =
     cond isZero (utf8 "zéro" ∷ []) (cond isNegative (utf8 "moins" ∷ []) [] ++ groupsBelow F 34 gs)
 
--- the phrase
+-- the phrase: all words joined by a space, or by `-` if reformed
 unfoldable pub cardinalPhrase : French → Bool → Bool → List ℕ → List ℕ
 cardinalPhrase F isZero isNegative gs = joinedBy (joiner F) (cardinalWords F isZero isNegative gs)

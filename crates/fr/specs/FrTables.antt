@@ -1,24 +1,24 @@
--- The tables of fr.rs as text, in its order: UNITS, TEENS, TENS, MEGAS.
+-- The tables of fr.rs as text, in its order: UNITS, TENS, TEENS, MEGAS (01, "French", names the last two).
 -- Assumes nothing.
 use Prim.Native.String.{String}
 use mathlib.Core.List.{List, [], _∷_}
 
--- 1 to 9
+-- UNITS: 1 to 9
 unfoldable pub units : List String
 units = "un" ∷ "deux" ∷ "trois" ∷ "quatre" ∷ "cinq" ∷ "six" ∷ "sept" ∷ "huit" ∷ "neuf" ∷ []
 
--- 10, 20 to 90
+-- TENS: 10, 20 to 90, as FR has them
 unfoldable pub tens : List String
 tens =
     "dix" ∷ "vingt" ∷ "trente" ∷ "quarante" ∷ "cinquante" ∷ "soixante" ∷ "soixante-dix" ∷ "quatre-vingt" ∷
     "quatre-vingt-dix" ∷ []
 
--- 10 to 19
+-- TEENS: 10 to 19
 unfoldable pub teens : List String
 teens =
     "dix" ∷ "onze" ∷ "douze" ∷ "treize" ∷ "quatorze" ∷ "quinze" ∷ "seize" ∷ "dix-sept" ∷ "dix-huit" ∷ "dix-neuf" ∷ []
 
--- the orders 1 to 33
+-- MEGAS: the scale words of the orders 1 to 33
 unfoldable pub megas : List String
 megas =
     "mille" ∷ "million" ∷ "milliard" ∷ "billion" ∷ "billiard" ∷ "trillion" ∷ "trilliard" ∷ "quadrillion" ∷

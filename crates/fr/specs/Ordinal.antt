@@ -14,10 +14,10 @@ withoutE [] = []
 withoutE (b ∷ []) = cond (eqb b 101) [] (b ∷ [])
 withoutE (b ∷ c ∷ s) = b ∷ withoutE (c ∷ s)
 
--- the ordinal's phrase from the cardinal's
+-- the ordinal's phrase from the cardinal's: a final `e` dropped, then `ième`
 unfoldable pub nth : List ℕ → List ℕ
 nth s = withoutE s ++ utf8 "ième"
 
--- the ordinal of a number that is 0, or 1, or neither
+-- the ordinal of the number with these groups, of which is said whether it is 0 and whether it is 1: 1 is `premier`
 unfoldable pub ordinalPhrase : French → Bool → Bool → List ℕ → List ℕ
 ordinalPhrase F isZero isOne gs = cond isOne (utf8 "premier") (nth (cardinalPhrase F isZero false gs))

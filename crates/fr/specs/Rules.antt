@@ -10,46 +10,52 @@ use Rattle.base.specs.Join.{Word}
 use Rattle.fr.specs.FrTables.{units, tens, teens, megas}
 use Rattle.fr.specs.declared.French.{French}
 
--- the settings: feminine 0 or 1, reformed 0 or 1, region 0 FR, 1 BE, 2 CH
+-- the settings ("From the repository, and added"): feminine 0 or 1, reformed 0 or 1, region 0 FR, 1 BE, 2 CH
 abbrev pub isFeminine : French → Bool
 isFeminine F = eqb (F .feminine) 1
 
+-- reformed is 1
 abbrev pub isReformed : French → Bool
 isReformed F = eqb (F .reformed) 1
 
+-- the region is FR
 abbrev pub inFR : French → Bool
 inFR F = eqb (F .region) 0
 
+-- the region is CH
 abbrev pub inCH : French → Bool
 inCH F = eqb (F .region) 2
 
+-- each setting is in its range
 abbrev pub InRange : French → Type 0
 InRange F = (F .feminine < 2) × (F .reformed < 2) × (F .region < 3)
 
--- the orders that rules name: order 0, and order 1, that of `mille`
+-- the order is 0
 abbrev pub isLowest : ℕ → Bool
 isLowest zero = true
 isLowest (suc k) = false
 
+-- the order is 1, that of `mille`
 abbrev pub isMille : ℕ → Bool
 isMille zero = false
 isMille (suc zero) = true
 isMille (suc (suc k)) = false
 
--- all words are joined by a space, or by `-` if reformed
+-- the byte between words: a space, or `-` if reformed
 abbrev pub joiner : French → ℕ
 joiner F = cond (isReformed F) 45 32
 
--- words after others, each with the joiner j before it; and words joined
+-- words after others, each with the joiner j before it
 abbrev pub spacedBy : ℕ → List Word → List ℕ
 spacedBy j [] = []
 spacedBy j (w ∷ ws) = j ∷ (w ++ spacedBy j ws)
 
+-- all words joined by j
 abbrev pub joinedBy : ℕ → List Word → List ℕ
 joinedBy j [] = []
 joinedBy j (w ∷ ws) = w ++ spacedBy j ws
 
--- `cents` if nothing follows in the group and the order isn't 1, else `cent`
+-- `cents` if nothing follows in the group and the order isn't 1, else `cent`; below is the group without its hundreds
 unfoldable pub centWord : ℕ → ℕ → Word
 centWord order below = cond (eqb below 0 && not (isMille order)) (utf8 "cents") (utf8 "cent")
 
@@ -63,7 +69,7 @@ hundredWords order (suc (suc h)) below = form1 units (suc h) ∷ centWord order 
 abbrev pub countsOn : French → ℕ → Bool
 countsOn F t = inFR F && (eqb t 7 || eqb t 9)
 
--- BE and CH have `septante`, `nonante`; CH has `huitante`
+-- the tens word: BE and CH have `septante`, `nonante`; CH has `huitante`
 unfoldable pub tenWord : French → ℕ → Word
 tenWord F t =
     cond (eqb t 7 && not (inFR F)) (utf8 "septante")
@@ -73,15 +79,15 @@ tenWord F t =
 abbrev pub fourTwenties : French → ℕ → Bool
 fourTwenties F t = eqb t 8 && not (inCH F)
 
--- units 0 with tens 8 outside CH: `quatre-vingts`, but `quatre-vingt` at order 1
+-- the tens word where units is 0: with tens 8 outside CH `quatre-vingts`, but `quatre-vingt` at order 1
 unfoldable pub roundWord : French → ℕ → ℕ → Word
 roundWord F order t = cond (fourTwenties F t && not (isMille order)) (utf8 "quatre-vingts") (tenWord F t)
 
--- from a tens word to a unit or teen: ` et ` (reformed `-et-`) if the units digit is 1, but a hyphen after 80 (outside CH) and 90 in FR;
--- otherwise a hyphen
+-- whether `et` stands between a tens word and a unit or teen: if the units digit is 1, but not after 80 (outside CH) and 90 in FR
 abbrev pub takesEt : French → ℕ → ℕ → Bool
 takesEt F t u = eqb u 1 && not (fourTwenties F t || (eqb t 9 && inFR F))
 
+-- from a tens word to a unit or teen: ` et ` (reformed `-et-`), otherwise a hyphen
 unfoldable pub link : French → ℕ → ℕ → Word
 link F t u = cond (takesEt F t u) (cond (isReformed F) (utf8 "-et-") (utf8 " et ")) (utf8 "-")
 
@@ -89,10 +95,11 @@ link F t u = cond (takesEt F t u) (cond (isReformed F) (utf8 "-et-") (utf8 " et 
 abbrev pub isUne : French → ℕ → ℕ → Bool
 isUne F order u = isLowest order && (isFeminine F && eqb u 1)
 
+-- the unit's word
 unfoldable pub unitWord : French → ℕ → ℕ → Word
 unitWord F order u = cond (isUne F order u) (utf8 "une") (form1 units (u - 1))
 
--- a tens word, and a unit or teen
+-- a tens word with a unit, or in FR the tens word below with a teen; in fr.rs this is one word, and so it is not joined like others
 unfoldable pub pairWord : French → ℕ → ℕ → ℕ → Word
 pairWord F order t u =
     cond (countsOn F t) (tenWord F (t - 1) ++ (link F t u ++ form1 teens u)) (tenWord F t ++ (link F t u ++ unitWord F order u))
@@ -105,6 +112,7 @@ lowWords F order (suc zero) u = form1 teens u ∷ []
 lowWords F order (suc (suc t)) zero = roundWord F order (suc (suc t)) ∷ []
 lowWords F order (suc (suc t)) (suc u) = pairWord F order (suc (suc t)) (suc u) ∷ []
 
+-- a group's words before its scale word
 abbrev pub numberWords : French → ℕ → ℕ → List Word
 numberWords F order g = hundredWords order (g / 100 % 10) (g % 100) ++ lowWords F order (g / 10 % 10) (g % 10)
 
@@ -113,6 +121,6 @@ unfoldable pub scaleWords : ℕ → ℕ → List Word
 scaleWords zero g = []
 scaleWords (suc k) g = (form1 megas k ++ cond (isMille (suc k) || eqb g 1) [] (utf8 "s")) ∷ []
 
--- a group; one of exactly 1 at order 1 writes no unit
+-- a group's words; one of exactly 1 at order 1 writes no unit
 unfoldable pub groupWords : French → ℕ → ℕ → List Word
 groupWords F order g = cond (isMille order && eqb g 1) [] (numberWords F order g) ++ scaleWords order g
