@@ -22,11 +22,11 @@ use Rattle.forms.specs.declared.Kind.the-variants.{Card, Ord, Num, Year, Money,
 use Rattle.forms.specs.declared.Language.{Language}
 use Rattle.forms.specs.declared.Language.the-variants.{Ukrainian, French, Neither}
 
--- the line of a phrase, or of the refusal n where n is not 0
+-- "the phrase, `refused` and a number": the line of the refusal n, or where n is 0 of the phrase
 abbrev pub told : ℕ → List ℕ → List ℕ
 told n phrase = cond (eqb n 0) (phrase ++ (10 ∷ [])) (utf8 "refused " ++ ((48 + n) ∷ 10 ∷ []))
 
--- the answer to every other line
+-- "Every other line, also an empty one, is a `bad line`"
 abbrev pub badLine : List ℕ
 badLine = utf8 "bad line" ++ (10 ∷ [])
 
@@ -44,7 +44,7 @@ ukrainian Year g n c s = cond (closed s) (told (refusalOf (judgeYear (inner s)))
 ukrainian Money g n c s = amount g n c (first s) (rest s)
 ukrainian Other g n c s = badLine
 
--- a French form: "French has card and ord"
+-- the same of a French form: "French has card and ord"
 unfoldable pub frenchForm : Kind → ℕ → ℕ → ℕ → List ℕ → List ℕ
 frenchForm Card f o r s = cond (closed s) (told (firstRefusal (french f o r) (cardinalRefusal (inner s))) (cardinalOf (french f o r) (inner s))) badLine
 frenchForm Ord f o r s = cond (closed s) (told (firstRefusal (french f o r) (ordinalRefusal (inner s))) (ordinalOf (french f o r) (inner s))) badLine
@@ -53,7 +53,7 @@ frenchForm Year f o r s = badLine
 frenchForm Money f o r s = badLine
 frenchForm Other f o r s = badLine
 
--- a form of which the settings' three words and what follows them are left
+-- a form of which the settings' three words and what follows them are left; a name that is no setting makes a bad line
 unfoldable pub settled : Kind → Language → List ℕ → List ℕ
 settled k Ukrainian s =
     cond (inRange (genderOf (first s)) (numberOf (first (rest s))) (caseOf (first (rest (rest s)))))

@@ -13,49 +13,54 @@ use Rattle.fr.specs.Ordinal.{ordinalPhrase}
 use Rattle.fr.specs.Grammar.{Says, SaysNth}
 use Rattle.fr.specs.declared.French.{French}
 
--- the settings of these numbers, and whether each is in its range
+-- the settings of these numbers
 abbrev pub french : ℕ → ℕ → ℕ → French
 french feminine reformed region = record { feminine = feminine; reformed = reformed; region = region }
 
+-- each is in its range (01, "From the repository, and added")
 abbrev pub inRange : French → Bool
 inRange F = ltb (F .feminine) 2 && (ltb (F .reformed) 2 && ltb (F .region) 3)
 
--- refusal 1 for settings, or 0
+-- a reading call's refusal before the phrase's: 1 for a setting outside its range, or 0 (01, "Where each refusal arises")
 abbrev pub settingsRefusal : French → ℕ
 settingsRefusal F = cond (inRange F) 0 1
 
--- the refusal of a number text, or 0: at most 102 digits, and an ordinal is not negative
+-- 3 or 5 where a number text is refused, else 0 (01, "Number texts": at most 102 digits)
 abbrev pub cardinalRefusal : List ℕ → ℕ
 cardinalRefusal xs = numberOf (judgeDigits true 102 xs)
 
+-- 3, 4 or 5 where an ordinal's is refused, else 0: it is not negative
 abbrev pub ordinalRefusal : List ℕ → ℕ
 ordinalRefusal xs = numberOf (judgeDigits false 102 xs)
 
--- none of the conditions 3 to 5 holds of the text
+-- none of the conditions 3 to 5 holds of a cardinal's text (01, "Phrase grammar and reader": admitted)
 abbrev pub CardinalAdmitted : List ℕ → Type 0
 CardinalAdmitted xs = cardinalRefusal xs ≡ 0
 
+-- nor of an ordinal's
 abbrev pub OrdinalAdmitted : List ℕ → Type 0
 OrdinalAdmitted xs = ordinalRefusal xs ≡ 0
 
--- the first refusal of a spelling call, before the buffer's
+-- the first refusal of a spelling call before the buffer's, or 0: settings, then the refusal of the text
 abbrev pub firstRefusal : French → ℕ → ℕ
 firstRefusal F refusal = cond (inRange F) refusal 1
 
--- the phrases of a number text
+-- the cardinal of an admitted number text
 unfoldable pub cardinalOf : French → List ℕ → List ℕ
 cardinalOf F xs = cardinalPhrase F (eqb (value (unsigned xs)) 0) (negative xs) (groupsOf 34 (value (unsigned xs)))
 
+-- its ordinal
 unfoldable pub ordinalOf : French → List ℕ → List ℕ
 ordinalOf F xs = ordinalPhrase F (eqb (value (unsigned xs)) 0) (eqb (value (unsigned xs)) 1) (groupsOf 34 (value (unsigned xs)))
 
--- the phrase s is a sentence whose value is the number text xs
+-- the phrase s is a sentence whose value is the number text xs (01, "Phrase grammar and reader")
 pub record CardinalMeans (F : French) (s xs : List ℕ) : Type 0 where
   pub minus : Bool
   pub magnitude : ℕ
   pub says : Says F s minus magnitude
   pub text : xs ≡ signedText minus magnitude
 
+-- the phrase s is an ordinal whose value is the number text xs
 pub record OrdinalMeans (F : French) (s xs : List ℕ) : Type 0 where
   pub magnitude : ℕ
   pub says : SaysNth F s magnitude

@@ -13,7 +13,7 @@ use Rattle.forms.specs.declared.Kind.the-variants.{Card, Ord, Num, Year,
 use Rattle.forms.specs.declared.Language.{Language}
 use Rattle.forms.specs.declared.Language.the-variants.{Ukrainian, French, Neither}
 
--- the first word of a line, up to its first space
+-- the first word of a line, up to its first space ("Single spaces"); brackets belong to the words that they open or close
 unfoldable pub first : List ℕ → Word
 first [] = []
 first (b ∷ s) = cond (eqb b 32) [] (b ∷ first s)
@@ -30,15 +30,16 @@ same [] (c ∷ w) = false
 same (b ∷ v) [] = false
 same (b ∷ v) (c ∷ w) = eqb b c && same v w
 
--- the place of a word among names, counted from k; behind the last where it is none of them
+-- the place of a word among names of which the first has place k; the place behind the last where it is none of them
 abbrev pub placeFrom : ℕ → List String → Word → ℕ
 placeFrom k [] w = k
 placeFrom k (n ∷ ns) w = cond (same (utf8 n) w) k (placeFrom (suc k) ns w)
 
+-- the place of a word among names, from 0 on; how many they are where it is none of them
 abbrev pub placeIn : List String → Word → ℕ
 placeIn ns w = placeFrom 0 ns w
 
--- "Kinds: card, ord, num, year, money"
+-- "Kinds: card, ord, num, year, money", with the bracket that opens the form
 unfoldable pub kindOf : Word → Kind
 kindOf w =
     cond (same (utf8 "(card") w) Card
@@ -47,27 +48,31 @@ kindOf w =
     (cond (same (utf8 "(year") w) Year
     (cond (same (utf8 "(money") w) Money Other))))
 
--- the language, which opens the settings
+-- the language, with the bracket that opens the settings
 unfoldable pub languageOf : Word → Language
 languageOf w = cond (same (utf8 "(uk") w) Ukrainian (cond (same (utf8 "(fr") w) French Neither)
 
--- "`(uk m sing nom)` with m f n, sing plur, nom gen dat acc ins loc": 01's setting numbers, out of range for any other word
+-- "`(uk m sing nom)` with m f n, sing plur, nom gen dat acc ins loc": 01's setting numbers, out of range for any other word; the gender
 unfoldable pub genderOf : Word → ℕ
 genderOf w = placeIn ("m" ∷ "f" ∷ "n" ∷ []) w
 
+-- the grammatical number
 unfoldable pub numberOf : Word → ℕ
 numberOf w = placeIn ("sing" ∷ "plur" ∷ []) w
 
+-- the case, with the bracket that closes the settings
 unfoldable pub caseOf : Word → ℕ
 caseOf w = placeIn ("nom)" ∷ "gen)" ∷ "dat)" ∷ "acc)" ∷ "ins)" ∷ "loc)" ∷ []) w
 
--- "`(fr m old FR)` with m f, old new", and the regions FR BE CH
+-- "`(fr m old FR)` with m f, old new", and the regions of "From the repository, and added"; feminine or not
 unfoldable pub feminineOf : Word → ℕ
 feminineOf w = placeIn ("m" ∷ "f" ∷ []) w
 
+-- reformed or not
 unfoldable pub reformedOf : Word → ℕ
 reformedOf w = placeIn ("old" ∷ "new" ∷ []) w
 
+-- the region, with the bracket that closes the settings
 unfoldable pub regionOf : Word → ℕ
 regionOf w = placeIn ("FR)" ∷ "BE)" ∷ "CH)" ∷ []) w
 
@@ -80,9 +85,10 @@ free (b ∷ s) = (not (eqb b 32) && (not (eqb b 40) && not (eqb b 41))) && free 
 abbrev pub run : List ℕ → Bool
 run s = not (eqb (length s) 0) && free s
 
--- what stands before the last byte, and whether that is a run and the last byte the form's closing bracket
+-- what stands before the last byte
 abbrev pub inner : List ℕ → List ℕ
 inner s = take (length s - 1) s
 
+-- whether that is a run, and the last byte the bracket that closes the form
 abbrev pub closed : List ℕ → Bool
 closed s = run (inner s) && eqb (getD s (length s - 1) 0) 41

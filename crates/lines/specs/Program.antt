@@ -7,12 +7,12 @@ use mathlib.Core.List.{List, [], _∷_, _++_}
 use lib.Dec.{eqb}
 use Rattle.answers.specs.Answers.{answerLine}
 
--- a byte put before the first line
+-- a byte put before the first of some lines
 abbrev pub toFirst : ℕ → List (List ℕ) → List (List ℕ)
 toFirst b [] = (b ∷ []) ∷ []
 toFirst b (l ∷ ls) = (b ∷ l) ∷ ls
 
--- what stands before each line feed, and at last what is behind them all
+-- what stands before each line feed ("byte 10"), and at last what is behind them all
 unfoldable pub parts : List ℕ → List (List ℕ)
 parts [] = [] ∷ []
 parts (b ∷ s) = cond (eqb b 10) ([] ∷ parts s) (toFirst b (parts s))
@@ -22,7 +22,7 @@ abbrev pub lastAnswer : List ℕ → List ℕ
 lastAnswer [] = []
 lastAnswer (b ∷ l) = answerLine (b ∷ l)
 
--- the answers to the lines, one after another
+-- the answers to the lines, one after another ("writes one line each")
 unfoldable pub answers : List (List ℕ) → List ℕ
 answers [] = []
 answers (l ∷ []) = lastAnswer l

@@ -1,4 +1,4 @@
--- What the readers promise, by the grammar alone.
+-- What the readers promise, by the grammar alone (01, "Phrase grammar and reader").
 -- Assumes nothing.
 use Prim.Native.Nat.{ℕ}
 use mathlib.Core.Path.{_≡_}
@@ -10,18 +10,19 @@ use Rattle.fr.specs.declared.French.{French}
 use Rattle.read_fr.specs.declared.Seen.{Seen}
 use Rattle.read_fr.specs.declared.Seen.the-variants.{Refused, Plain, Negative}
 
--- the answer to a sentence with this sign
+-- the answer to a sentence with this sign; the third, `Refused`, is 01's refusal 6
 abbrev pub seenAs : Bool → Seen
 seenAs true = Negative
 seenAs false = Plain
 
+-- what the reader of cardinals makes of the bytes s: its answer r, and the groups gs
 pub record ReadOf (F : French) (s : List ℕ) (r : Seen) (gs : List ℕ) : Type 0 where
   -- a sentence is read with its sign and its groups
   pub reads : (minus : Bool) (n : ℕ) → Says F s minus n → (r ≡ seenAs minus) × (total gs ≡ n)
   -- what is none is refused
   pub refuses : ((minus : Bool) (n : ℕ) → Says F s minus n → ⊥) → r ≡ Refused
 
--- the same of ordinals: whether it is one, and its groups
+-- the same of ordinals: r says whether the bytes are one
 pub record ReadNth (F : French) (s : List ℕ) (r : Bool) (gs : List ℕ) : Type 0 where
   pub reads : (n : ℕ) → SaysNth F s n → (r ≡ true) × (total gs ≡ n)
   pub refuses : ((n : ℕ) → SaysNth F s n → ⊥) → r ≡ false

@@ -10,10 +10,11 @@ use Rattle.base.specs.Join.{Word}
 use Rattle.tokens.specs.Tokens.{split, key}
 use Rattle.meanings_fr.specs.Meanings.{meaningOf}
 
--- the meaning of a word, and the meanings of a text's words
+-- the meaning of a word: 1 to 100 a number, 1000 + k the scale word of order k, 2001 the minus word, 0 any other
 abbrev pub meant : Word → ℕ
 meant w = meaningOf (key w)
 
+-- the meanings of a text's words
 unfoldable pub meanings : List ℕ → List ℕ
 meanings s = map meant (split s)
 
@@ -21,10 +22,11 @@ meanings s = map meant (split s)
 abbrev pub grow : ℕ → ℕ → ℕ
 grow c m = cond (eqb c 4 && eqb m 20) 80 ((c + m) % 100)
 
--- how many hundreds `cent` is after c; what a scale word is after the number v
+-- how many hundreds `cent` is after c: 1 where nothing stands before it
 abbrev pub times : ℕ → ℕ
 times c = cond (eqb c 0) 1 (c % 10)
 
+-- how many of its scale a scale word is after the number v: 1 where nothing stands before it
 abbrev pub one : ℕ → ℕ
 one v = cond (eqb v 0) 1 v
 
@@ -34,6 +36,7 @@ pub record Group : Type 0 where
   pub order : ℕ
   pub rest : List ℕ
 
+-- the group of these
 abbrev pub guess : ℕ → ℕ → List ℕ → Group
 guess v k ms = record { value = v; order = k; rest = ms }
 
@@ -47,11 +50,12 @@ unfoldable pub reads : ℕ → Group → List ℕ
 reads zero g = []
 reads (suc k) g = cond (eqb (g .order) k) (reads k (seems 0 0 (g .rest)) ++ (g .value ∷ [])) (reads k g ++ (0 ∷ []))
 
--- whether the minus word is at the front, and what is behind it
+-- whether the minus word is at the front
 abbrev pub isMinus : List ℕ → Bool
 isMinus [] = false
 isMinus (m ∷ ms) = eqb m 2001
 
+-- what is behind it, if it is there
 abbrev pub unsigned : List ℕ → List ℕ
 unsigned ms = cond (isMinus ms) (drop 1 ms) ms
 

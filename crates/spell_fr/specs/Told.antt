@@ -1,4 +1,5 @@
 -- What a planner of French words promises of its plan. A plan's numbers are those of `phrase`: a word's number times 256, and its separator.
+-- They serve the code; no call's contract cites them.
 -- Assumes nothing.
 use Prim.Native.Nat.{ℕ, _+_, _*_, _/_, _%_, _≤_}
 use mathlib.Core.Path.{_≡_}

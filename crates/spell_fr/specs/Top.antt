@@ -1,4 +1,4 @@
--- A number's 34 groups, and where they begin.
+-- A number's 34 groups, and which of them is the highest that is not 0. They serve the code; no call's contract cites them.
 -- Assumes nothing.
 use Prim.Native.Nat.{ℕ, _-_, _<_, _≤_}
 use mathlib.Core.Path.{_≡_}
@@ -6,7 +6,7 @@ use mathlib.Core.List.{List}
 use lib.ListN.{length, getD}
 use Rattle.figures.specs.Groups.{Groups}
 
--- 34 groups of three digits, the lowest first
+-- 34 groups of three digits, the lowest first (01, "Number texts")
 abbrev pub Groups34 : List ℕ → Type 0
 Groups34 gs = (length gs ≡ 34) × Groups gs
 
