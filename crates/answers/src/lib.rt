@@ -23,7 +23,7 @@ fn settle(kind: Kind, language: Language, s: &[u8], out: &mut [u8]) -> usize
     }
 }
 
-// A line's answer, over the front of out.
+// Writes a line's answer, with its line feed, over the front of out, and returns its length.
 pub fn answer_line(s: &[u8], out: &mut [u8]) -> usize
     requires { ⌜ 12321 ≤ length (now out) ⌝ }
     ensures { λ r. ⌜ Wrote (answerLine (now (s .entry))) r (now (out .entry)) (now (out .exit)) ⌝ }

@@ -7,7 +7,8 @@ ghost use Prim.Native.Nat.{_≤_};
 ghost use lib.ListN.{length, take};
 ghost use Rattle.lines.specs.Program.{isLine};
 
-// Feeds one block, and writes what comes of it as often as out is full.
+// Feeds one block, and writes what comes of it as often as out is full. Where out has room for an answer at least one byte
+// is read; that none was is tested since a proved loop has to end.
 fn pass(block: &[u8], line: &mut [u8], n: usize, out: &mut [u8]) -> usize
     requires { ⌜ (n ≤ 513) × (length (now line) ≡ 513) × (isLine (take n (now line)) ≡ true) ⌝ }
     ensures { λ r. ⌜ (r ≤ 513) × (isLine (take r (now (line .exit))) ≡ true) ⌝ }

@@ -6,7 +6,7 @@ ghost use Prim.Native.Nat.{_-_, _≤_};
 ghost use lib.ListN.{length, take, drop};
 ghost use Rattle.forms.specs.Line.{first as firstOf, rest as restOf, genderOf, numberOf, caseOf, feminineOf, reformedOf, regionOf};
 
-// The numbers of three words, and where what is behind them starts.
+// The setting numbers of three words, in their order, and where what is behind them starts.
 pub struct Three {
     pub a: u32,
     pub b: u32,

@@ -128,7 +128,7 @@ fn takes_s(order: usize, below: usize) -> bool
     if below == 0 { order != 1 } else { false }
 }
 
-// The unit and `cent` or `cents` of a hundreds digit above 1.
+// The unit and `cent` or `cents` of a hundreds digit above 1, which the bank has as one text.
 pub fn hundreds(f: French, order: usize, h: usize, below: usize) -> u16
     requires { ⌜ (1 < h) × (h < 10) ⌝ }
     ensures { λ r. ⌜ Numbered r (form1 units (h - 1) ++ (joinerOf f ∷ centWord order below)) ⌝ }
@@ -140,14 +140,14 @@ pub fn hundreds(f: French, order: usize, h: usize, below: usize) -> u16
     word(n)
 }
 
-// Where the hundreds with this joiner begin.
+// From where the hundreds with this joiner are counted in the bank: two texts for each digit, from 2 on.
 fn first_hundred(f: French) -> usize
     ensures { λ r. ⌜ (r ≡ cond (isReformed f) 112 96) × (r ≤ 112) ⌝ }
 {
     if f.reformed == 1 { 112 } else { 96 }
 }
 
-// The scale word of an order above a group, with its `s`: the one place that names it.
+// The scale word of an order above 0, with its `s` where it takes one. `mille` has one text in the bank, every other word two.
 pub fn scale(order: usize, g: usize) -> u16
     requires { ⌜ (0 < order) × (order < 34) ⌝ }
     ensures { λ r. ⌜ Numbered r (form1 megas (order - 1) ++ cond (isMille order || eqb g 1) [] (utf8 "s")) ⌝ }
@@ -161,7 +161,7 @@ pub fn scale(order: usize, g: usize) -> u16
     word(33 + 2 * order)
 }
 
-// A word without its final `e`.
+// A word without its final `e`: the arms are the words that end in one, each with the text that the bank has for it without.
 pub fn stem(id: u16) -> u16
     requires { ⌜ Known id ⌝ }
     ensures { λ r. ⌜ Numbered r (withoutE (text id)) × (0 < length (text id)) ⌝ }

@@ -1,4 +1,5 @@
-// A list of lines with their answers, the phrases as the published Rust says them: `stdin` and `stdout`, made by tools/make_replay.sh.
+// The program phrases again, for the gate to run on a list of lines: `stdin`, with the answers in `stdout`, the phrases as the published Rust says
+// them. Both are made by tools/make_replay.sh.
 fn main() {
     blocks::answer_input();
 }

@@ -35,7 +35,8 @@ const PREMIER: u16 = 388;
 
 const IEME: u16 = 389;
 
-// Adds a word to a plan of which `at` are written. (It says more than `phrase::push`: which number was stored.)
+// Adds a word to a plan of which `at` are written. Unlike that of `phrase::push`, its contract says which number is stored: an ordinal takes the
+// last one apart again.
 fn say(plan: &mut [u32], at: usize, separator: u8, id: u16) -> usize
     requires { ⌜ at < length (now plan) ⌝ }
     ensures { λ r. ⌜ Pushed (now (plan .entry)) at (now (plan .exit)) r separator id ⌝ }
