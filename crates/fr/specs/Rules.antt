@@ -10,7 +10,7 @@ use Rattle.base.specs.Join.{Word}
 use Rattle.fr.specs.FrTables.{units, tens, teens, megas}
 use Rattle.fr.specs.declared.French.{French}
 
--- the settings ("From the repository, and added"): feminine 0 or 1, reformed 0 or 1, region 0 FR, 1 BE, 2 CH
+-- feminine is 1; the settings are "feminine 0 or 1, reformed 0 or 1, region 0 FR, 1 BE, 2 CH" ("From the repository, and added")
 abbrev pub isFeminine : French → Bool
 isFeminine F = eqb (F .feminine) 1
 
