@@ -52,7 +52,7 @@ fn main() {
     }
 }
 
-/// All cases of the calls that the archive has, each checked against the Rust's phrases.
+/// All cases of the calls, each checked against the Rust's phrases.
 fn cases() -> Vec<Case> {
     let mut cases = Vec::new();
     for kind in KINDS {
@@ -74,7 +74,7 @@ pub fn library(kind: Kind, reading: bool) -> Option<Subject> {
     if reading {
         subjects::reading(kind)
     } else {
-        subjects::spelling(kind)
+        Some(subjects::spelling(kind))
     }
 }
 

@@ -6,7 +6,6 @@
 set -euo pipefail
 here=$(cd "$(dirname "${BASH_SOURCE[0]}")" && pwd)
 repo=$(dirname "$here")
-. "$repo/host/calls.sh"
 . "$repo/compare/reference.sh"
 build=${YOKEPEAR_BUILD:-$repo/target}/bench
 

@@ -24,8 +24,7 @@ impl Answer {
 /// Declares a C call and a function that makes a subject of it; the tokens after the name are the
 /// arguments between the settings and the buffer.
 macro_rules! c_call {
-    ($($have:meta)?, $name:ident, $input:ident, ($($type:ty),*), ($($argument:expr),*)) => {
-        $(#[cfg($have)])?
+    ($name:ident, $input:ident, ($($type:ty),*), ($($argument:expr),*)) => {
         fn $name() -> Subject {
             extern "C" {
                 fn $name(a: u32, b: u32, c: u32, $(_: $type,)* out: *mut u8, room: usize) -> Answer;
@@ -39,77 +38,64 @@ macro_rules! c_call {
 }
 
 macro_rules! on_text {
-    ($($have:meta)?, $name:ident, $field:ident) => {
-        c_call!($($have)?, $name, input, (*const u8, usize),
+    ($name:ident, $field:ident) => {
+        c_call!($name, input, (*const u8, usize),
             (input.$field.as_ptr(), input.$field.len()));
     };
 }
 
 macro_rules! on_money {
-    ($($have:meta)?, $name:ident, $field:ident) => {
-        c_call!($($have)?, $name, input, (*const u8, usize, *const u8, usize),
+    ($name:ident, $field:ident) => {
+        c_call!($name, input, (*const u8, usize, *const u8, usize),
             (input.manner.code.as_ptr(), input.manner.code.len(),
              input.$field.as_ptr(), input.$field.len()));
     };
 }
 
 macro_rules! on_year {
-    ($($have:meta)?, $name:ident) => {
-        c_call!($($have)?, $name, input, (i64), (input.year));
+    ($name:ident) => {
+        c_call!($name, input, (i64), (input.year));
     };
 }
 
-on_text!(have_uk_to_cardinal, yokepear_uk_to_cardinal, text);
-on_text!(have_uk_from_cardinal, yokepear_uk_from_cardinal, phrase);
-on_text!(have_fr_to_cardinal, yokepear_fr_to_cardinal, text);
-on_text!(have_fr_from_cardinal, yokepear_fr_from_cardinal, phrase);
-on_text!(have_fr_to_ordinal, yokepear_fr_to_ordinal, text);
-on_text!(have_fr_from_ordinal, yokepear_fr_from_ordinal, phrase);
-on_money!(have_uk_to_currency, yokepear_uk_to_currency, text);
-on_money!(have_uk_from_currency, yokepear_uk_from_currency, phrase);
-on_text!(have_uk_to_ordinal, yokepear_uk_to_ordinal, text);
-on_text!(have_uk_to_ordinal_num, yokepear_uk_to_ordinal_num, text);
-on_year!(have_uk_to_year, yokepear_uk_to_year);
-on_text!(, plain_uk_to_cardinal, text);
-on_text!(, plain_uk_to_ordinal, text);
-on_text!(, plain_uk_to_ordinal_num, text);
-on_money!(, plain_uk_to_currency, text);
-on_year!(, plain_uk_to_year);
-on_text!(, plain_fr_to_cardinal, text);
-on_text!(, plain_fr_to_ordinal, text);
+on_text!(yokepear_uk_to_cardinal, text);
+on_text!(yokepear_uk_from_cardinal, phrase);
+on_text!(yokepear_fr_to_cardinal, text);
+on_text!(yokepear_fr_from_cardinal, phrase);
+on_text!(yokepear_fr_to_ordinal, text);
+on_text!(yokepear_fr_from_ordinal, phrase);
+on_money!(yokepear_uk_to_currency, text);
+on_money!(yokepear_uk_from_currency, phrase);
+on_text!(yokepear_uk_to_ordinal, text);
+on_text!(yokepear_uk_to_ordinal_num, text);
+on_year!(yokepear_uk_to_year);
+on_text!(plain_uk_to_cardinal, text);
+on_text!(plain_uk_to_ordinal, text);
+on_text!(plain_uk_to_ordinal_num, text);
+on_money!(plain_uk_to_currency, text);
+on_year!(plain_uk_to_year);
+on_text!(plain_fr_to_cardinal, text);
+on_text!(plain_fr_to_ordinal, text);
 
-/// The library's spelling call, if the archive has it.
-#[allow(unreachable_patterns)]
-pub fn spelling(kind: Kind) -> Option<Subject> {
-    Some(match kind {
-        #[cfg(have_uk_to_cardinal)]
+/// The library's spelling call.
+pub fn spelling(kind: Kind) -> Subject {
+    match kind {
         Kind::UkCardinal => yokepear_uk_to_cardinal(),
-        #[cfg(have_uk_to_currency)]
         Kind::UkMoney => yokepear_uk_to_currency(),
-        #[cfg(have_uk_to_ordinal)]
         Kind::UkOrdinal => yokepear_uk_to_ordinal(),
-        #[cfg(have_uk_to_ordinal_num)]
         Kind::UkDigitOrdinal => yokepear_uk_to_ordinal_num(),
-        #[cfg(have_uk_to_year)]
         Kind::UkYear => yokepear_uk_to_year(),
-        #[cfg(have_fr_to_cardinal)]
         Kind::FrCardinal => yokepear_fr_to_cardinal(),
-        #[cfg(have_fr_to_ordinal)]
         Kind::FrOrdinal => yokepear_fr_to_ordinal(),
-        _ => return None,
-    })
+    }
 }
 
-/// The library's reading call, if the archive has it.
+/// The library's reading call, where the kind is read.
 pub fn reading(kind: Kind) -> Option<Subject> {
     Some(match kind {
-        #[cfg(have_uk_from_cardinal)]
         Kind::UkCardinal => yokepear_uk_from_cardinal(),
-        #[cfg(have_uk_from_currency)]
         Kind::UkMoney => yokepear_uk_from_currency(),
-        #[cfg(have_fr_from_cardinal)]
         Kind::FrCardinal => yokepear_fr_from_cardinal(),
-        #[cfg(have_fr_from_ordinal)]
         Kind::FrOrdinal => yokepear_fr_from_ordinal(),
         _ => return None,
     })

@@ -75,7 +75,7 @@ impl Checker {
     }
 
     fn read_back(&mut self, manner: &Manner, phrase: &[u8], text: &[u8]) -> Result<(), Difference> {
-        if !calls::reads(manner.kind) {
+        if !manner.kind.is_read() {
             return Ok(());
         }
         self.counts.read_back += 1;
@@ -115,7 +115,7 @@ impl Checker {
         &mut self,
         outcome: Outcome,
         needed: usize,
-        ask: impl Fn(&mut [u8]) -> Option<Answer>,
+        ask: impl Fn(&mut [u8]) -> Answer,
     ) -> Result<(), String> {
         self.compare(ROOM, outcome, &ask)?;
         self.turn += 1;
@@ -134,9 +134,9 @@ impl Checker {
         &mut self,
         room: usize,
         outcome: Outcome,
-        ask: impl Fn(&mut [u8]) -> Option<Answer>,
+        ask: impl Fn(&mut [u8]) -> Answer,
     ) -> Result<(), String> {
-        let answer = ask(&mut self.buffer[..room]).ok_or("the archive lacks this call")?;
+        let answer = ask(&mut self.buffer[..room]);
         let (expected, bytes): (Answer, &[u8]) = match outcome {
             Outcome::Refused(number) => (Answer { number, length: 0 }, &[]),
             Outcome::Bytes(b) if b.len() > room => (Answer { number: 7, length: b.len() }, &[]),

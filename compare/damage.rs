@@ -166,7 +166,7 @@ fn words_moved(
 
 /// The phrase read in every other setting, with other codes, and as the other kinds.
 fn other_manners(spelled: &Spelled, checker: &mut Checker, random: &mut Random) -> Outcome {
-    for kind in KINDS.into_iter().filter(|kind| calls::reads(*kind)) {
+    for kind in KINDS.into_iter().filter(|kind| kind.is_read()) {
         let settings = kind.all_settings();
         for settings in &settings {
             let code = std::str::from_utf8(spelled.manner.code).unwrap_or("");

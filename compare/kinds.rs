@@ -62,6 +62,10 @@ impl Kind {
         }
     }
 
+    pub fn is_read(self) -> bool {
+        self.reading_call().is_some()
+    }
+
     pub fn is_french(self) -> bool {
         matches!(self, Kind::FrCardinal | Kind::FrOrdinal)
     }

@@ -1,6 +1,6 @@
 //! Compares every answer of the library with the published Rust's, through the C calls.
 //!
-//! `compare` takes about two minutes when all calls exist, `compare full` much longer;
+//! `compare` takes about two minutes, `compare full` much longer;
 //! `compare samples TABLE FOLDER` writes expected answers instead and asks no call.
 
 mod calls;
@@ -83,7 +83,7 @@ fn compare(size: &Size) {
     let seed = std::env::var("YOKEPEAR_SEED").ok().and_then(|s| s.parse().ok()).unwrap_or(1);
     println!("seed {seed}");
     let mut total = Counts::default();
-    for kind in KINDS.into_iter().filter(|kind| calls::spells(*kind) || calls::reads(*kind)) {
+    for kind in KINDS {
         let start = Instant::now();
         match compare_kind(kind, size, seed) {
             Ok(counts) => {
@@ -104,10 +104,8 @@ fn compare(size: &Size) {
 fn compare_kind(kind: Kind, size: &Size, seed: u64) -> Result<Counts, Difference> {
     let mut checker = Checker::new(17);
     let mut random = Random::new(seed);
-    if calls::spells(kind) {
-        spelling::run(kind, size, &mut checker, &mut random)?;
-    }
-    if calls::reads(kind) {
+    spelling::run(kind, size, &mut checker, &mut random)?;
+    if kind.is_read() {
         damage::run(kind, size, &mut checker, &mut random)?;
     }
     Ok(checker.counts)

@@ -19,7 +19,6 @@ find_sources() {
 # build_reference REPO FOLDER: builds the published files, and leaves in `rust` the command that
 # builds a program upon them.
 build_reference() {
-  local call
   mkdir -p "$2"
   rust=(rustc --edition 2021 -O --out-dir "$2" -L "$2")
   "${rust[@]}" --crate-type rlib --crate-name num_bigfloat "$1/compare/num_bigfloat.rs"
@@ -27,14 +26,10 @@ build_reference() {
   "${rust[@]}" --crate-type rlib --crate-name reference --cap-lints allow --extern num_bigfloat \
     "$1/compare/reference.rs"
   rust+=(--extern reference)
-  for call in "${CALLS[@]}"; do rust+=(--check-cfg "cfg(have_$call)"); done
 }
 
-# link_library FOLDER: adds the archive and a cfg for each of its calls to the command `rust`.
+# link_library FOLDER: adds the archive to the command `rust`.
 link_library() {
-  local call
-  find_calls "$1/libyokepear.a"
-  say_missing
+  [ -f "$1/libyokepear.a" ] || { echo "no static library in $1: build it, or set YOKEPEAR_LIB" >&2; exit 1; }
   rust+=(-L "native=$1" -l static=yokepear)
-  for call in "${BUILT[@]}"; do rust+=(--cfg "have_$call"); done
 }

@@ -6,18 +6,16 @@
 set -euo pipefail
 here=$(cd "$(dirname "${BASH_SOURCE[0]}")" && pwd)
 repo=$(dirname "$here")
-. "$repo/host/calls.sh"
 . "$here/reference.sh"
 build=${YOKEPEAR_BUILD:-$repo/target}/compare
 
 find_sources compare "$repo"
 build_reference "$repo" "$build"
+link_library "${YOKEPEAR_LIB:-$repo/target/staticlib}"
+"${rust[@]}" --crate-name compare "$here/main.rs"
 if [ "${1:-}" = samples ]; then
-  "${rust[@]}" --crate-name compare "$here/main.rs"
   mkdir -p "$here/out"
   "$build/compare" samples "$repo/host/expected.txt" "$here/out"
 else
-  link_library "${YOKEPEAR_LIB:-$repo/target/staticlib}"
-  "${rust[@]}" --crate-name compare "$here/main.rs"
   "$build/compare" "$@"
 fi

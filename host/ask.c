@@ -2,41 +2,18 @@
 
 #include <string.h>
 
-/* The build defines HAVE_name for each call that the archive has. */
 struct call calls[] = {
-#ifdef HAVE_uk_to_cardinal
     {"uk_to_cardinal", CARDINAL, 0, 0, yokepear_uk_to_cardinal, 0, 0, 0, 0, 0},
-#endif
-#ifdef HAVE_uk_from_cardinal
     {"uk_from_cardinal", CARDINAL, 0, 1, yokepear_uk_from_cardinal, 0, 0, 0, 0, 0},
-#endif
-#ifdef HAVE_fr_to_cardinal
     {"fr_to_cardinal", CARDINAL, 1, 0, yokepear_fr_to_cardinal, 0, 0, 0, 0, 0},
-#endif
-#ifdef HAVE_fr_from_cardinal
     {"fr_from_cardinal", CARDINAL, 1, 1, yokepear_fr_from_cardinal, 0, 0, 0, 0, 0},
-#endif
-#ifdef HAVE_fr_to_ordinal
     {"fr_to_ordinal", ORDINAL, 1, 0, yokepear_fr_to_ordinal, 0, 0, 0, 0, 0},
-#endif
-#ifdef HAVE_fr_from_ordinal
     {"fr_from_ordinal", ORDINAL, 1, 1, yokepear_fr_from_ordinal, 0, 0, 0, 0, 0},
-#endif
-#ifdef HAVE_uk_to_currency
     {"uk_to_currency", MONEY, 0, 0, 0, yokepear_uk_to_currency, 0, 0, 0, 0},
-#endif
-#ifdef HAVE_uk_from_currency
     {"uk_from_currency", MONEY, 0, 1, 0, yokepear_uk_from_currency, 0, 0, 0, 0},
-#endif
-#ifdef HAVE_uk_to_ordinal
     {"uk_to_ordinal", ORDINAL, 0, 0, yokepear_uk_to_ordinal, 0, 0, 0, 0, 0},
-#endif
-#ifdef HAVE_uk_to_ordinal_num
     {"uk_to_ordinal_num", DIGIT_ORDINAL, 0, 0, yokepear_uk_to_ordinal_num, 0, 0, 0, 0, 0},
-#endif
-#ifdef HAVE_uk_to_year
     {"uk_to_year", YEAR, 0, 0, 0, 0, yokepear_uk_to_year, 0, 0, 0},
-#endif
 };
 
 const size_t call_count = sizeof calls / sizeof *calls;

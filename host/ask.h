@@ -1,4 +1,4 @@
-/* One way to ask any call of the library, as many of them as the archive has. */
+/* One way to ask any call of the library. */
 #ifndef ASK_H
 #define ASK_H
 
@@ -39,7 +39,7 @@ struct request {
 extern struct call calls[];
 extern const size_t call_count;
 
-/* The call of this name, or null if the archive lacks it. */
+/* The call of this name, or null if there is none. */
 struct call *find_call(const char *name);
 
 /* The reading call of the same kind and language, or null. */

@@ -1,25 +1,17 @@
-/*
- * An example: a price list is spoken, and each phrase is read back.
- *
- * It speaks money. A library that has no money calls yet speaks the whole hryvnias as cardinals.
- */
+/* An example: a price list is spoken, in hryvnias, and each phrase is read back. */
 #include <stdio.h>
 #include <string.h>
 
 #include "yokepear.h"
 
-#if defined HAVE_uk_to_currency && defined HAVE_uk_from_currency
 #define PHRASE YOKEPEAR_UK_CURRENCY_PHRASE
 #define TEXT YOKEPEAR_UK_CURRENCY_TEXT
 
 static const uint8_t hryvnia[3] = {'U', 'A', 'H'};
 
-/* The text of the price that is spoken. */
-static size_t text_length(const char *price) { return strlen(price); }
-
 static yokepear_answer speak(const char *price, uint8_t phrase[PHRASE]) {
   return yokepear_uk_to_currency(YOKEPEAR_FEMININE, YOKEPEAR_SINGULAR, YOKEPEAR_NOMINATIVE, hryvnia,
-                                 sizeof hryvnia, (const uint8_t *)price, text_length(price), phrase,
+                                 sizeof hryvnia, (const uint8_t *)price, strlen(price), phrase,
                                  PHRASE);
 }
 
@@ -27,23 +19,6 @@ static yokepear_answer listen(const uint8_t *phrase, size_t length, uint8_t text
   return yokepear_uk_from_currency(YOKEPEAR_FEMININE, YOKEPEAR_SINGULAR, YOKEPEAR_NOMINATIVE,
                                    hryvnia, sizeof hryvnia, phrase, length, text, TEXT);
 }
-#else
-#define PHRASE YOKEPEAR_UK_CARDINAL_PHRASE
-#define TEXT YOKEPEAR_UK_CARDINAL_TEXT
-
-/* The text of the price that is spoken. */
-static size_t text_length(const char *price) { return strcspn(price, "."); }
-
-static yokepear_answer speak(const char *price, uint8_t phrase[PHRASE]) {
-  return yokepear_uk_to_cardinal(YOKEPEAR_FEMININE, YOKEPEAR_SINGULAR, YOKEPEAR_NOMINATIVE,
-                                 (const uint8_t *)price, text_length(price), phrase, PHRASE);
-}
-
-static yokepear_answer listen(const uint8_t *phrase, size_t length, uint8_t text[TEXT]) {
-  return yokepear_uk_from_cardinal(YOKEPEAR_FEMININE, YOKEPEAR_SINGULAR, YOKEPEAR_NOMINATIVE,
-                                   phrase, length, text, TEXT);
-}
-#endif
 
 static const struct {
   const char *name, *price;
@@ -67,7 +42,7 @@ static int item(const char *name, const char *price) {
   }
   printf("%s: %.*s (%.*s)\n", name, (int)spoken.length, (const char *)phrase, (int)heard.length,
          (const char *)text);
-  return heard.length == text_length(price) && !memcmp(text, price, heard.length);
+  return heard.length == strlen(price) && !memcmp(text, price, heard.length);
 }
 
 int main(void) {

@@ -3,7 +3,6 @@
 # and its stack. Ends non-zero at a difference. YOKEPEAR_LIB is the static library's folder.
 set -euo pipefail
 . "$(dirname "${BASH_SOURCE[0]}")/common.sh"
-say_missing
 "$host/header.sh"
 sources=(test.c test_table.c test_texts.c test_codes.c test_phrases.c ask.c guard.c expect.c)
 "${compile[@]}" "${sources[@]/#/$host/}" "$archive" -o "$build/test"

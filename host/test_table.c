@@ -33,7 +33,7 @@ static void test_line(char *line) {
   char *rest = line;
   const char *name = word(&rest, line);
   r.call = find_call(name);
-  if (!r.call) return;
+  if (!r.call) stop("there is no such call", name);
   for (int i = 0; i < 3; i++) r.settings[i] = (uint32_t)strtoul(word(&rest, line), 0, 10);
   if (r.call->kind == MONEY) {
     r.code = (const uint8_t *)word(&rest, line);
