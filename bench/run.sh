@@ -9,7 +9,7 @@ repo=$(dirname "$here")
 . "$repo/compare/reference.sh"
 build=${YOKEPEAR_BUILD:-$repo/target}/bench
 
-find_sources bench "$repo"
+find_sources bench
 build_reference "$repo" "$build"
 rm -f "$build"/*.o "$build"/libplain.a "$build"/callgrind*
 for source in plain plain_uk_cardinal plain_uk_ordinal plain_uk_money plain_fr; do

@@ -1,11 +1,12 @@
 # shellcheck shell=bash disable=SC2034
 # Sourced by the scripts that need the published Rust: where it is, and how it is built.
-# YOKEPEAR_SOURCES is the folder of the published files.
+# YOKEPEAR_SOURCES is the folder of the published files, the one that has src/lang/uk.rs.
 
-# find_sources WHAT REPO: says that WHAT is not run, and ends with 0, where they are not there.
+# find_sources WHAT: says that WHAT is not run, and ends with 0, where they are not there.
 find_sources() {
   local file
-  export YOKEPEAR_SOURCES=${YOKEPEAR_SOURCES:-$2/../shared/docs/src}
+  [ -n "${YOKEPEAR_SOURCES:-}" ] || { echo "$1: NOT RUN, set YOKEPEAR_SOURCES to the folder of the published Rust"; exit 0; }
+  export YOKEPEAR_SOURCES
   for file in lang/uk.rs lang/fr.rs currency.rs num2words.rs; do
     if [ ! -f "$YOKEPEAR_SOURCES/src/$file" ]; then
       echo "$1: NOT RUN, the published Rust is not there ($YOKEPEAR_SOURCES/src/$file)"

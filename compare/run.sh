@@ -9,7 +9,7 @@ repo=$(dirname "$here")
 . "$here/reference.sh"
 build=${YOKEPEAR_BUILD:-$repo/target}/compare
 
-find_sources compare "$repo"
+find_sources compare
 build_reference "$repo" "$build"
 link_library "${YOKEPEAR_LIB:-$repo/target/staticlib}"
 "${rust[@]}" --crate-name compare "$here/main.rs"
