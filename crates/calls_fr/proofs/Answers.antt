@@ -18,7 +18,7 @@ use Rattle.fr.specs.Cardinal.{cardinalPhrase}
 use Rattle.fr.specs.Ordinal.{ordinalPhrase}
 use Rattle.fr.specs.declared.French.{French}
 use Rattle.spell_fr.specs.Top.{Groups34}
-use Rattle.read_fr.specs.Promise.{seenAs, ReadOf, ReadNth}
+use Rattle.read_fr.specs.Promise.{numberOf, seenAs, ReadOf, ReadNth}
 use Rattle.read_fr.specs.declared.Seen.the-variants.{Refused}
 use Rattle.calls_fr.specs.Calls.{inRange, firstRefusal, settingsRefusal, cardinalOf, ordinalOf, CardinalMeans, OrdinalMeans}
 
@@ -78,6 +78,10 @@ seen-not : {A : Type 0} (m : Bool) → Refused ≡ seenAs m → A
 seen-not true e = let z : _≡_ {A = ℕ} 0 1 = cc in absurd (omega arith)
 seen-not false e = let z : _≡_ {A = ℕ} 0 1 = cc in absurd (omega arith)
 
+seen-done : {A : Type 0} (m : Bool) → numberOf (seenAs m) ≡ 6 → A
+seen-done true e = absurd (omega arith)
+seen-done false e = absurd (omega arith)
+
 seen-sign : (m k : Bool) → seenAs m ≡ seenAs k → m ≡ k
 seen-sign true true e = refl
 seen-sign true false e = let z : _≡_ {A = ℕ} 0 1 = cc in absurd (omega arith)
@@ -91,7 +95,7 @@ module _ (F : French) (s gs xs ys : List ℕ) (r : Answer) where
   pub cardinal-some : (m : Bool) → ReadOf F s (seenAs m) gs → Answers r xs ys (fitted xs (signedText m (total gs))) → Reads (CardinalMeans F) s r xs ys
   cardinal-some m p a = record {
     sentence = λ t x. let e = p .reads (x .minus) (x .magnitude) (x .says) in rw (x .text, ← e .1, ← seen-sign m (x .minus) (e .0)) a;
-    none = λ f. seen-not m (sym (p .refuses (λ k n q. f (signedText k n) (record { minus = k; magnitude = n; says = q; text = refl }))));
+    none = λ f. seen-done m (p .refuses (λ k n q. f (signedText k n) (record { minus = k; magnitude = n; says = q; text = refl })));
   }
 
   pub ordinal-none : (b : Bool) → ReadNth F s b gs → b ≡ false → Answers r xs ys (refused 6 0) → Reads (OrdinalMeans F) s r xs ys

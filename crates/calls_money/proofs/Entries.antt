@@ -75,7 +75,9 @@ module _ (c : Currency) (case : ℕ) (s gs xs ys : List ℕ) (r : Answer) where
         let k : q .hundredths ≡ h = same h (q .hundredths) (e .0) in
         let f : t ≡ moneyText (total gs) h = q .text ∙ ap (moneyText (q .whole)) k ∙ ap (λ (n : ℕ). moneyText n h) (sym (e .1)) in
         subst (λ (x : List ℕ). Answers r xs ys (fitted xs x)) (sym f) a;
-    none = λ f. seen-not h (sym (p .refuses (λ n k q. f (moneyText n k) (record { whole = n; hundredths = k; says = q; text = refl }))));
+    none = λ f.
+        let e = p .refuses (λ n k q. f (moneyText n k) (record { whole = n; hundredths = k; says = q; text = refl })) in
+        absurd (omega (arith, e));
   }
     where
       same : (h k : ℕ) → Amount h ≡ Amount k → k ≡ h

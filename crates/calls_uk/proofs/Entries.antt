@@ -17,7 +17,7 @@ use Rattle.phrase.specs.Plan.{says}
 use Rattle.uk.specs.Ukrainian.{ukrainian}
 use Rattle.uk.specs.Cardinal.{cardinalWords}
 use Rattle.uk.specs.Grammar.{Says}
-use Rattle.read_uk.specs.Promise.{seenAs, ReadOf}
+use Rattle.read_uk.specs.Promise.{numberOf, seenAs, ReadOf}
 use Rattle.read_uk.specs.declared.Seen.{Seen}
 use Rattle.read_uk.specs.declared.Seen.the-variants.{Refused}
 use Rattle.calls_uk.specs.Cardinals.{cardinal, Means}
@@ -41,6 +41,10 @@ seen-not : {A : Type 0} (m : Bool) → Refused ≡ seenAs m → A
 seen-not true e = let z : _≡_ {A = ℕ} 0 1 = cc in absurd (omega arith)
 seen-not false e = let z : _≡_ {A = ℕ} 0 1 = cc in absurd (omega arith)
 
+seen-done : {A : Type 0} (m : Bool) → numberOf (seenAs m) ≡ 6 → A
+seen-done true e = absurd (omega arith)
+seen-done false e = absurd (omega arith)
+
 seen-sign : (m k : Bool) → seenAs m ≡ seenAs k → m ≡ k
 seen-sign true true e = refl
 seen-sign true false e = let z : _≡_ {A = ℕ} 0 1 = cc in absurd (omega arith)
@@ -60,5 +64,5 @@ module _ (g c : ℕ) (s gs : List ℕ) (xs ys : List ℕ) (r : Answer) where
         let e = p .reads (q .minus) (q .magnitude) (q .says) in
         let f : t ≡ signedText m (total gs) = q .text ∙ ap (λ (b : Bool). signedText b (q .magnitude)) (sym (seen-sign m (q .minus) (e .0))) ∙ ap (signedText m) (sym (e .1)) in
         subst (λ (x : List ℕ). Answers r xs ys (fitted xs x)) (sym f) a;
-    none = λ f. seen-not m (sym (p .refuses (λ minus n q. f (signedText minus n) (record { minus = minus; magnitude = n; says = q; text = refl }))));
+    none = λ f. seen-done m (p .refuses (λ minus n q. f (signedText minus n) (record { minus = minus; magnitude = n; says = q; text = refl })));
   }

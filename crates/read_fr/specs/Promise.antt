@@ -10,7 +10,13 @@ use Rattle.fr.specs.declared.French.{French}
 use Rattle.read_fr.specs.declared.Seen.{Seen}
 use Rattle.read_fr.specs.declared.Seen.the-variants.{Refused, Plain, Negative}
 
--- the answer to a sentence with this sign; the third, `Refused`, is 01's refusal 6
+-- 01's number of each answer
+abbrev pub numberOf : Seen → ℕ
+numberOf Refused = 6
+numberOf Plain = 0
+numberOf Negative = 0
+
+-- the answer to a sentence with this sign
 abbrev pub seenAs : Bool → Seen
 seenAs true = Negative
 seenAs false = Plain
@@ -19,8 +25,8 @@ seenAs false = Plain
 pub record ReadOf (F : French) (s : List ℕ) (r : Seen) (gs : List ℕ) : Type 0 where
   -- a sentence is read with its sign and its groups
   pub reads : (minus : Bool) (n : ℕ) → Says F s minus n → (r ≡ seenAs minus) × (total gs ≡ n)
-  -- what is none is refused
-  pub refuses : ((minus : Bool) (n : ℕ) → Says F s minus n → ⊥) → r ≡ Refused
+  -- what is none is refused, with 6
+  pub refuses : ((minus : Bool) (n : ℕ) → Says F s minus n → ⊥) → numberOf r ≡ 6
 
 -- the same of ordinals: r says whether the bytes are one
 pub record ReadNth (F : French) (s : List ℕ) (r : Bool) (gs : List ℕ) : Type 0 where

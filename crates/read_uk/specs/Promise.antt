@@ -1,4 +1,4 @@
--- What the reader of cardinals promises, by the grammar alone.
+-- What the reader of cardinals promises, by the grammar alone (01, "Phrase grammar and reader").
 -- Assumes nothing.
 use mathlib.Core.Path.{_≡_}
 use mathlib.Core.Bool.{Bool, true, false}
@@ -10,13 +10,20 @@ use Rattle.uk.specs.Grammar.{Says}
 use Rattle.read_uk.specs.declared.Seen.{Seen}
 use Rattle.read_uk.specs.declared.Seen.the-variants.{Refused, Plain, Negative}
 
--- the answer for a sentence with this sign
+-- 01's number of each answer
+abbrev pub numberOf : Seen → ℕ
+numberOf Refused = 6
+numberOf Plain = 0
+numberOf Negative = 0
+
+-- the answer to a sentence with this sign
 abbrev pub seenAs : Bool → Seen
 seenAs true = Negative
 seenAs false = Plain
 
+-- what the reader makes of the bytes s: its answer r, and the groups gs
 pub record ReadOf (W : Words) (s : List ℕ) (r : Seen) (gs : List ℕ) : Type 0 where
   -- bytes that are a sentence are read with its sign and its groups
   pub reads : (minus : Bool) (n : ℕ) → Says W s minus n → (r ≡ seenAs minus) × (total gs ≡ n)
-  -- bytes that are none are refused
-  pub refuses : ((minus : Bool) (n : ℕ) → Says W s minus n → ⊥) → r ≡ Refused
+  -- bytes that are none are refused, with 6
+  pub refuses : ((minus : Bool) (n : ℕ) → Says W s minus n → ⊥) → numberOf r ≡ 6
