@@ -1,16 +1,15 @@
 -- Laws of the lines of an input: one byte more, and a line that is too long.
 -- Assumes nothing.
-use Prim.Native.Nat.{ℕ, zero, suc, _+_, _<_, _≤_}
+use Prim.Native.Nat.{ℕ, _<_, _≤_}
 use mathlib.Core.Path.{_≡_, refl, sym, ap, _∙_}
-use mathlib.Core.Bool.{Bool, true, false, cond, not, _&&_}
-use mathlib.Core.List.{List, [], _∷_, _++_, append-assoc, append-nil}
+use mathlib.Core.Bool.{Bool, true, false, not, _&&_}
+use mathlib.Core.List.{List, [], _∷_, _++_, append-nil}
 use native.Mathlib.Omega.{arith}
-use borrow.Author.Tests.{ne-eqb, eqb-true, eqb-false, ltb-false, lt-leb}
-use lib.Dec.{eqb, ltb, leb}
+use borrow.Author.Tests.{ne-eqb, lt-leb}
+use lib.Dec.{eqb}
 use lib.ListN.{length, length-append}
 use Rattle.answers.specs.Answers.{answerLine, badLine}
 use Rattle.lines.specs.Program.{toFirst, parts, lastAnswer, answers, program, isLine}
-use Rattle.lines.specs.Machine.{push, next, told, pending, output}
 
 clash : {A : Type 0} → false ≡ true → A
 clash e = let z : _≡_ {A = ℕ} 0 1 = cc in absurd (omega arith)
@@ -89,45 +88,6 @@ pub line-on : (p : List ℕ) (b : ℕ) → isLine p ≡ true → (b ≡ 10 → �
 unfolding isLine
 line-on [] b e z = rw (ne-eqb b 10 z) refl
 line-on (c ∷ p) b e z = let f = line-parts c p e in rw (f .0) (line-on p b (f .1) z)
-
--- one byte of the machine
-pub turn : (p : List ℕ) (b : ℕ) (rest : List ℕ) → isLine p ≡ true → program (p ++ (b ∷ rest)) ≡ told p b ++ program (next p b ++ rest)
-unfolding told next
-turn p b rest e = go (eqb b 10) refl
-  where
-    long : (b ≡ 10 → ⊥) → (t : Bool) → ltb (length p) 513 ≡ t → program (p ++ (b ∷ rest)) ≡ program (cond t (p ++ (b ∷ [])) p ++ rest)
-    long z true i = ap program (sym (append-assoc p (b ∷ []) rest))
-    long z false i = goes-on p b rest e z (ltb-false (length p) 513 i)
-
-    go : (t : Bool) → eqb b 10 ≡ t → program (p ++ (b ∷ rest)) ≡ cond t (answerLine p) [] ++ program (cond t [] (push p b) ++ rest)
-    go true q = ap (λ (c : ℕ). program (p ++ (c ∷ rest))) (eqb-true b 10 q) ∙ line-ends p rest e
-    go false q = long (eqb-false b 10 q) (ltb (length p) 513) refl
-
-pub next-line : (p : List ℕ) (b : ℕ) → isLine p ≡ true → isLine (next p b) ≡ true
-unfolding next isLine
-next-line p b e = go (eqb b 10) refl
-  where
-    short : (b ≡ 10 → ⊥) → (t : Bool) → isLine (cond t (p ++ (b ∷ [])) p) ≡ true
-    short z true = line-on p b e z
-    short z false = e
-
-    go : (t : Bool) → eqb b 10 ≡ t → isLine (cond t [] (push p b)) ≡ true
-    go true q = refl
-    go false q = short (eqb-false b 10 q) (ltb (length p) 513)
-
--- all bytes of a block
-pub fed : (p block rest : List ℕ) → isLine p ≡ true → program (p ++ (block ++ rest)) ≡ output p block ++ program (pending p block ++ rest)
-unfolding output pending
-fed p [] rest e = refl
-fed p (b ∷ block) rest e =
-    turn p b (block ++ rest) e
-    ∙ ap (λ (l : List ℕ). told p b ++ l) (fed (next p b) block rest (next-line p b e))
-    ∙ sym (append-assoc (told p b) (output (next p b) block) (program (pending (next p b) block ++ rest)))
-
-pub pending-line : (p block : List ℕ) → isLine p ≡ true → isLine (pending p block) ≡ true
-unfolding pending
-pending-line p [] e = e
-pending-line p (b ∷ block) e = pending-line (next p b) block (next-line p b e)
 
 -- a line alone
 pub alone : (p : List ℕ) → isLine p ≡ true → program p ≡ lastAnswer p

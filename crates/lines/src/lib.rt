@@ -1,12 +1,11 @@
 // The program over blocks of its input: a line is gathered, and answered at its end.
 ghost use mathlib.Core.Path.{_≡_};
 ghost use mathlib.Core.Bool.{true};
-ghost use mathlib.Core.List.{_++_};
+ghost use mathlib.Core.List.{[], _∷_};
 ghost use Prim.Native.Nat.{_+_, _≤_, _<_};
-ghost use lib.ListN.{length, take};
+ghost use lib.ListN.{length, take, drop};
 ghost use Rattle.base.specs.Buffer.{over};
 ghost use Rattle.lines.specs.Program.{program, isLine, Answered};
-ghost use Rattle.lines.specs.Machine.{next as nextOf, told as toldOf};
 
 // How much of a line is held, and how much was written.
 pub struct Turn {
@@ -21,12 +20,13 @@ pub struct Fed {
     pub used: usize,
 }
 
-// One byte: at a line's end its answer is written after the first used bytes of out; any other byte joins the line.
+// One byte, a block of one: at a line's end its answer is written after the first used bytes of out; any other byte joins the line.
 fn take_byte(b: u8, line: &mut [u8], held: usize, out: &mut [u8], used: usize) -> Turn
-    requires { ⌜ (held ≤ 513) × (length (now line) ≡ 513) × (used + 12321 ≤ length (now out)) ⌝ }
-    ensures { λ r. ⌜ (r .held ≤ 513) × (r .used ≤ length (now (out .entry))) ⌝ }
-    ensures { λ r. ⌜ take (r .held) (now (line .exit)) ≡ nextOf (take held (now (line .entry))) b ⌝ }
-    ensures { λ r. ⌜ take (r .used) (now (out .exit)) ≡ take used (now (out .entry)) ++ toldOf (take held (now (line .entry))) b ⌝ }
+    requires { ⌜ (held ≤ 513) × (length (now line) ≡ 513) × (isLine (take held (now line)) ≡ true) × (used + 12321 ≤ length (now out)) ⌝ }
+    ensures { λ r. ⌜ (r .held ≤ 513) × (used ≤ r .used) × (r .used ≤ length (now (out .entry))) ⌝ }
+    ensures { λ r. ⌜ isLine (take (r .held) (now (line .exit))) ≡ true ⌝ }
+    ensures { λ r. ⌜ take used (now (out .exit)) ≡ take used (now (out .entry)) ⌝ }
+    ensures { λ r. ⌜ Answered (take held (now (line .entry))) (b ∷ []) (drop used (take (r .used) (now (out .exit)))) (take (r .held) (now (line .exit))) ⌝ }
 {
     if b == 10 {
         let w = answers::answer_line(&line[..held], &mut out[used..]);

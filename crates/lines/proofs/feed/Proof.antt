@@ -1,39 +1,32 @@
--- `lines::feed` meets its contract: at the head of the loop the machine has taken the first bytes of the block.
+-- `lines::feed` meets its contract: at the head of the loop the first bytes of the block are answered.
 -- Assumes nothing.
-use Prim.Native.Nat.{ℕ, _≤_, _<_, _+_, _-_}
-use mathlib.Core.Path.{_≡_, refl, sym, ap, _∙_}
+use Prim.Native.Nat.{_≤_, _-_}
+use mathlib.Core.Path.{_≡_, refl, _∙_}
 use mathlib.Core.Bool.{true}
-use mathlib.Core.List.{_++_}
 use native.Mathlib.Omega.{arith}
-use lib.ListN.{length, take, getD}
-use Rattle.lines.specs.Program.{isLine, program}
-use Rattle.lines.specs.Machine.{next, told, pending, output}
-use Rattle.lines.proofs.Laws.{pending-turn, output-turn}
-use Rattle.lines.proofs.Lines.{fed, pending-line}
+use lib.ListN.{length, take}
+use Rattle.lines.specs.Program.{isLine, Answered}
+use Rattle.lines.proofs.Laws.{one-more}
 use Rattle.lines.proofs.feed.Statement.{statement}
 use Rattle.lines.proofs.feed.Tie as tie
 
 abbrev Inv-loop : tie.InvT-loop
 Inv-loop block line₀ n out₀ held₀ used₀ at₀ line out held used at =
-    (at ≤ length block) × (held ≤ 513) × (length line ≡ length line₀) × (used ≤ length out) × (length out ≡ length out₀) × (take held line ≡ pending (take n line₀) (take at block)) × (take used out ≡ output (take n line₀) (take at block)) × (isLine (take n line₀) ≡ true)
+    (at ≤ length block) × (held ≤ 513) × (length line ≡ length line₀) × (used ≤ length out) × (length out ≡ length out₀) × (isLine (take held line) ≡ true) × Answered (take n line₀) (take at block) (take used out) (take held line)
 
 abbrev μ-loop : tie.MeasureT-loop
 μ-loop block line₀ n out₀ held₀ used₀ at₀ line out held used at = length block - at
 
 loop-holds : tie.Need-loop-holds Inv-loop μ-loop
-unfolding pending output
-loop-holds c = (omega arith, omega arith, refl, omega arith, refl, refl, refl, c .before .before .before .pre .2)
+loop-holds c = (omega arith, omega arith, refl, omega arith, refl, c .before .before .before .pre .2, λ rest. refl)
 
 returns : tie.Need-returns Inv-loop μ-loop
-returns c =
-    let i = c .before .before .loop .inv in
-    let a = c .before .before .before .before .before .before .args in
-    ((i .0, i .1, omega arith), (rw (i .5) (pending-line _ _ (i .7)), ((λ rest. rw (i .5, i .6) (fed _ _ rest (i .7))), λ h. omega arith)))
+returns c = let i = c .before .before .loop .inv in ((i .0, i .1, omega arith), (i .5, (i .6, λ h. omega arith)))
 
 take-byte-requires : tie.Need-take-byte-requires Inv-loop μ-loop
 take-byte-requires c κs =
     let i = c .before .before .before .before .before .loop .inv in
-    (i .1, i .2 ∙ c .before .before .before .before .before .before .before .before .before .pre .1, omega arith)
+    (i .1, i .2 ∙ c .before .before .before .before .before .before .before .before .before .pre .1, i .5, omega arith)
 
 loop-again : tie.Need-loop-again Inv-loop μ-loop
 loop-again c =
@@ -42,23 +35,20 @@ loop-again c =
     let h = t .before .before .before .before .before .loop-test .taken in
     let i = l .loop .inv in
     let a = l .before .before .before .before .args in
-    let p = take (a .n) (a .line .now) in
-    let x : ℕ = getD (a .block .now) (l .loop .at) 0 in
-    let e = t .take-byte .ensures in (
+    let e = t .take-byte .ensures in
+    let r = t .take-byte .result in
+    let z = t .take-byte .last in (
       omega (arith, h),
       e .0 .0,
       t .take-byte .kept .1 .0 ∙ i .2,
-      omega (arith, e .0 .1, t .take-byte .kept .1 .1 .1 .0),
+      omega (arith, e .0 .2, t .take-byte .kept .1 .1 .1 .0),
       t .take-byte .kept .1 .1 .1 .0 ∙ i .4,
-      e .1 .0 ∙ ap (λ q. next q x) (i .5) ∙ sym (pending-turn p (a .block .now) (l .loop .at) h),
-      e .1 .1 ∙ rw (i .5, i .6) (sym (output-turn p (a .block .now) (l .loop .at) h)),
-      i .7,
+      e .1 .0,
+      one-more (take (a .n) (a .line .now)) (a .block .now) (l .loop .out) (z .1 .1 .1 .0) (take (l .loop .held) (l .loop .line)) (take (r .held) (z .1 .0)) (l .loop .at) (l .loop .used) (r .used) h (e .0 .1) (e .1 .1 .0) (i .6) (e .1 .1 .1),
     )
 
 returns-2 : tie.Need-returns-2 Inv-loop μ-loop
-returns-2 c =
-    let i = c .before .loop .inv in
-    ((i .0, i .1, omega arith), (rw (i .5) (pending-line _ _ (i .7)), ((λ rest. rw (i .5, i .6) (fed _ _ rest (i .7))), λ h. absurd (omega arith))))
+returns-2 c = let i = c .before .loop .inv in ((i .0, i .1, omega arith), (i .5, (i .6, λ h. absurd (omega arith))))
 
 pub feed-spec : {M : Type 1} → statement M
 feed-spec =

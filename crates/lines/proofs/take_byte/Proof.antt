@@ -1,50 +1,60 @@
--- `lines::take_byte` meets its contract.
+-- `lines::take_byte` meets its contract: a line's end, a byte that joins the line, and one of a line that is too long.
 -- Assumes nothing.
-use mathlib.Core.Path.{_≡_, sym, ap, _∙_}
-use mathlib.Core.List.{append-nil}
+use Prim.Native.Nat.{_+_, _≤_}
+use mathlib.Core.Path.{refl}
 use native.Mathlib.Omega.{arith}
 use lib.ListN.{length, take, length-take}
+use lib.Seq.{length-take-le}
 use borrow.Author.Needs.{needs}
 use Rattle.answers.specs.Answers.{answerLine}
-use Rattle.lines.proofs.Laws.{next-end, told-end, told-other, next-push, next-full, told-after}
+use Rattle.lines.specs.Program.{isLine}
+use Rattle.lines.proofs.Lines.{line-on}
+use Rattle.lines.proofs.Laws.{kept-before, told-behind, ended, joined, too-much, nothing, pushed}
 use Rattle.lines.proofs.take_byte.Statement.{statement}
 use Rattle.lines.proofs.take_byte.Tie as tie
 
 returns : tie.Need-returns
+unfolding isLine
 returns c =
     let b = c .before .before in
     let s = b .before .before .before .before .before .before in
     let a = s .args in
     let p = take (a .held) (a .line .now) in
-    let e = b .before .before .before .if1 .taken in
     let k = b .answer-line .ensures in
-    let w = k .size in (
-      (omega arith, omega (arith, k .room)),
+    let fits : a .used + length (answerLine p) ≤ length (a .out .now) = omega (arith, k .size, k .room) in (
+      (omega arith, omega arith, omega (arith, k .room)),
       (
-        sym (next-end p (a .b) e),
-        rw (told-end p (a .b) e, w, k .bytes) (told-after (a .out .now) (answerLine p) (a .used) (omega (arith, w, k .room))),
+        refl,
+        (
+          rw (k .bytes) (kept-before (a .out .now) (answerLine p) (a .used) fits),
+          rw (k .size, k .bytes) (ended p (a .b) (s .pre .2) _ (b .before .before .before .if1 .taken) (told-behind (a .out .now) (answerLine p) (a .used) fits)),
+        ),
       ),
     )
 
 returns-2 : tie.Need-returns-2
 returns-2 c =
     let s = c .before .before .before .before in
-    let a = s .args in (
-      (omega arith, omega arith),
+    let a = s .args in
+    let p = take (a .held) (a .line .now) in
+    let q = pushed (a .line .now) (a .held) (a .b) (omega arith) in (
+      (omega arith, omega arith, omega arith),
       (
-        next-push (a .line .now) (a .held) (a .b) (c .before .if1 .left) (c .if2 .taken) (s .pre .1),
-        rw (told-other (take (a .held) (a .line .now)) (a .b) (c .before .if1 .left)) (sym (append-nil (take (a .used) (a .out .now)))),
+        rw q (line-on p (a .b) (s .pre .2) (c .before .if1 .left)),
+        (refl, joined p (a .b) (s .pre .2) _ _ (nothing (a .out .now) (a .used) (omega arith)) q),
       ),
     )
 
 returns-3 : tie.Need-returns-3
 returns-3 c =
     let s = c .before .before .before .before in
-    let a = s .args in (
-      (omega arith, omega arith),
+    let a = s .args in
+    let p = take (a .held) (a .line .now) in
+    let l = length-take-le (a .held) (a .line .now) (omega arith) in (
+      (omega arith, omega arith, omega arith),
       (
-        next-full (a .line .now) (a .held) (a .b) (c .before .if1 .left) (c .if2 .left) (s .pre .0) (s .pre .1),
-        rw (told-other (take (a .held) (a .line .now)) (a .b) (c .before .if1 .left)) (sym (append-nil (take (a .used) (a .out .now)))),
+        s .pre .2,
+        (refl, too-much p (a .b) (s .pre .2) _ (c .before .if1 .left) (omega (arith, l, c .if2 .left)) (nothing (a .out .now) (a .used) (omega arith))),
       ),
     )
 
