@@ -1,19 +1,18 @@
 -- Laws of written lines: a call's answer made a line, and the numbers that refuse.
 -- Assumes nothing.
 use Prim.Native.Nat.{ℕ, zero, suc, _+_, _-_, _<_, _≤_}
-use mathlib.Core.Path.{_≡_, refl, sym, ap, _∙_}
-use mathlib.Core.Bool.{Bool, true, false, cond, not, _&&_}
-use mathlib.Core.List.{List, [], _∷_, _++_}
+use mathlib.Core.Path.{_≡_, refl, sym, ap, subst, _∙_}
+use mathlib.Core.Bool.{Bool, true, false, cond, not}
+use mathlib.Core.List.{List, [], _∷_, _++_, append-assoc}
 use native.Mathlib.Omega.{arith}
 use native.Mathlib.Numerals.{add-one}
 use borrow.Author.Tests.{ltb-true, ltb-false, ne-eqb, le-leb, lt-leb}
-use lib.Dec.{ltb, eqb}
+use lib.Dec.{ltb}
 use lib.IntN.{ℤ}
 use lib.ListN.{length, take, drop, set, length-append, length-drop}
-use lib.Seq.{take-all}
+use lib.Seq.{take-all, take-append-seam, length-take-le, drop-append-add, drop-drop, set-split}
 use Rattle.base.specs.Buffer.{over}
-use Rattle.base.specs.Utf8.{utf8}
-use Rattle.base.specs.Answer.{Reply, refused, bytes, numberOf, lengthOf, bufferOf, fitted, replied, Answers}
+use Rattle.base.specs.Answer.{refused, bytes, fitted, replied, Answers}
 use Rattle.base.specs.declared.Answer.{Answer}
 use Rattle.figures.specs.Text.{value, negative, unsigned, wellFormed}
 use Rattle.figures.specs.Refusals.{judged, judgeYear, numberOf as refusalOf}
@@ -28,14 +27,32 @@ use Rattle.forms.specs.declared.Kind.{Kind}
 use Rattle.forms.specs.declared.Language.{Language}
 use Rattle.forms.specs.declared.Language.the-variants.{Ukrainian, French}
 use Rattle.answers.specs.Answers.{told, badLine, ukrainian, frenchForm, settled, answerLine}
-use Rattle.answers.specs.Wrote.{Wrote, Finished}
+use Rattle.answers.specs.Wrote.{Wrote}
 
--- a byte behind what was written
-pub set-behind : (b xs : List ℕ) (v : ℕ) → length b < length xs → set (over xs b) (length b) v ≡ over xs (b ++ (v ∷ []))
-set-behind [] [] v h = absurd (omega arith)
-set-behind [] (x ∷ xs) v h = refl
-set-behind (c ∷ b) [] v h = absurd (omega arith)
-set-behind (c ∷ b) (x ∷ xs) v h = ap (λ (l : List ℕ). c ∷ l) (set-behind b xs v (omega arith))
+-- what a line's writer promises, without the record
+pub plainly : {a : List ℕ} {r : ℕ} {xs ys : List ℕ} → Wrote a r xs ys → ((r ≡ length a) × (ys ≡ over xs a)) × (r ≤ 12321)
+plainly w = ((w .size, w .bytes), w .room)
+
+-- where a line refuses, it is the same whatever the phrase
+told-any : (n : ℕ) (a b : List ℕ) → (n ≡ 0 → ⊥) → told n a ≡ told n b
+told-any n a b z = rw (ne-eqb n 0 z) refl
+
+-- a line over what begins as the line does
+over-over : (b t xs : List ℕ) → over (over xs b) (b ++ t) ≡ over xs (b ++ t)
+over-over b t xs =
+    ap (λ (l : List ℕ). (b ++ t) ++ l) (rw length-append (drop-append-add b (drop (length b) xs) (length t) ∙ drop-drop (length t) (length b) xs))
+
+-- the phrase at the front of a buffer gets its line feed
+pub line-fed : (n l : ℕ) (xs : List ℕ) → n ≡ 0 → l ≤ 12320 → l < length xs → Wrote (told n (take l xs)) (l + 1) xs (set xs l 10)
+line-fed n l xs e h f =
+    let p : List ℕ = take l xs ++ (10 ∷ []) in
+    let s : length p ≡ l + 1 = length-append (take l xs) (10 ∷ []) ∙ ap (λ (k : ℕ). k + 1) (length-take-le l xs (omega arith)) in
+    let w : Wrote p (l + 1) xs (set xs l 10) = record {
+      size = sym s;
+      room = omega arith;
+      bytes = set-split xs l 10 f ∙ sym (append-assoc (take l xs) (10 ∷ []) (drop (suc l) xs)) ∙ ap (λ (k : ℕ). p ++ drop k xs) (sym (s ∙ add-one l));
+    } in
+    rw e w
 
 -- a call's answer of the refusal n or the bytes b, of which no length is above 12,320, and its line
 module _ (a : Answer) (b xs ys : List ℕ) (short : a .length ≤ 12320) (room : 12321 ≤ length xs) where
@@ -51,26 +68,22 @@ module _ (a : Answer) (b xs ys : List ℕ) (short : a .length ≤ 12320) (room :
   small-number zero h e = omega (arith, fits e .0)
   small-number (suc n) h e = omega (arith, e .number)
 
-  pub told-line : (n r : ℕ) (zs : List ℕ) → Answers a xs ys (replied n b xs) → Finished (a .number) (a .length) r ys zs → Wrote (told n b) r xs zs
-  told-line zero r zs e f =
+  pub told-line : (n r : ℕ) (zs : List ℕ) → Answers a xs ys (replied n b xs) → Wrote (told (a .number) (take (a .length) ys)) r ys zs → Wrote (told n b) r xs zs
+  told-line zero r zs e w =
       let p = fits e in
-      let q = f .phrase (p .0) in
-      let z : zs ≡ set (over xs b) (length b) 10 = q .1 ∙ rw (p .1 .0, p .1 .1) refl in
-      record {
-        size = q .0 ∙ ap (λ (k : ℕ). k + 1) (p .1 .0) ∙ sym (length-append b (10 ∷ []));
-        room = omega (arith, q .0);
-        bytes = z ∙ set-behind b xs 10 (omega (arith, p .1 .0));
-      }
-  told-line (suc n) r zs e f =
-      let w = f .refusal (λ (z : a .number ≡ 0). omega (arith, e .number)) in
-      rw (ne-eqb (suc n) 0 (λ (z : suc n ≡ 0). omega arith)) (rw (e .number, e .buffer) at w)
+      let q : take (a .length) ys ≡ b = rw (p .1 .0, p .1 .1) (take-append-seam b (drop (length b) xs)) in
+      let v : Wrote (b ++ (10 ∷ [])) r ys zs = rw (p .0, q) at w in
+      record { size = v .size; room = v .room; bytes = v .bytes ∙ rw (p .1 .1) (over-over b (10 ∷ []) xs) }
+  told-line (suc n) r zs e w =
+      let v : Wrote (told (suc n) (take (a .length) xs)) r xs zs = rw (e .number, e .buffer) at w in
+      subst (λ (x : List ℕ). Wrote x r xs zs) (told-any (suc n) (take (a .length) xs) b (λ (z : suc n ≡ 0). omega arith)) v
 
   -- the same, where the form has its text
-  pub spoken : (t : Bool) (n r : ℕ) (zs : List ℕ) → t ≡ true → Answers a xs ys (replied n b xs) → Finished (a .number) (a .length) r ys zs → Wrote (cond t (told n b) badLine) r xs zs
+  pub spoken : (t : Bool) (n r : ℕ) (zs : List ℕ) → t ≡ true → Answers a xs ys (replied n b xs) → Wrote (told (a .number) (take (a .length) ys)) r ys zs → Wrote (cond t (told n b) badLine) r xs zs
   spoken t n r zs e p f = rw e (told-line n r zs p f)
 
-pub told-refusal : (n m : ℕ) (b : List ℕ) (r : ℕ) (xs ys : List ℕ) → m ≡ n → (m ≡ 0 → ⊥) → Wrote (utf8 "refused " ++ ((48 + m) ∷ 10 ∷ [])) r xs ys → Wrote (told n b) r xs ys
-told-refusal n m b r xs ys e z w = rw (ne-eqb n 0 (λ (h : n ≡ 0). z (e ∙ h)), ← e) w
+pub told-refusal : (n m : ℕ) (b : List ℕ) (r : ℕ) (xs ys : List ℕ) → m ≡ n → (m ≡ 0 → ⊥) → Wrote (told m []) r xs ys → Wrote (told n b) r xs ys
+told-refusal n m b r xs ys e z w = subst (λ (x : List ℕ). Wrote x r xs ys) (told-any m [] b z ∙ ap (λ (k : ℕ). told k b) e) w
 
 pub spoken-as : (t : Bool) (x : List ℕ) (r : ℕ) (xs ys : List ℕ) → t ≡ true → Wrote x r xs ys → Wrote (cond t x badLine) r xs ys
 spoken-as t x r xs ys e w = rw e w

@@ -6,8 +6,10 @@ mod write;
 use forms::Kind;
 use forms::Language;
 use write::bad;
+ghost use mathlib.Core.Path.{_≡_};
 ghost use Prim.Native.Nat.{_≤_};
 ghost use lib.ListN.{length};
+ghost use Rattle.base.specs.Buffer.{over};
 ghost use Rattle.answers.specs.Answers.{settled, answerLine};
 ghost use Rattle.answers.specs.Wrote.{Wrote};
 
@@ -26,7 +28,8 @@ fn settle(kind: Kind, language: Language, s: &[u8], out: &mut [u8]) -> usize
 // Writes a line's answer, with its line feed, over the front of out, and returns its length.
 pub fn answer_line(s: &[u8], out: &mut [u8]) -> usize
     requires { ⌜ 12321 ≤ length (now out) ⌝ }
-    ensures { λ r. ⌜ Wrote (answerLine (now (s .entry))) r (now (out .entry)) (now (out .exit)) ⌝ }
+    ensures { λ r. ⌜ (r ≡ length (answerLine (now (s .entry)))) × (now (out .exit) ≡ over (now (out .entry)) (answerLine (now (s .entry)))) ⌝ }
+    ensures { λ r. ⌜ r ≤ 12321 ⌝ }
 {
     if 512 < s.len() {
         return bad(out);

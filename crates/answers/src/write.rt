@@ -1,11 +1,10 @@
 // The lines that are written.
 use base::Answer;
-ghost use mathlib.Core.List.{[], _∷_, _++_};
-ghost use Prim.Native.Nat.{_+_, _≤_, _<_};
-ghost use lib.ListN.{length};
-ghost use Rattle.base.specs.Utf8.{utf8};
-ghost use Rattle.answers.specs.Answers.{badLine};
-ghost use Rattle.answers.specs.Wrote.{Wrote, Finished};
+ghost use mathlib.Core.List.{[]};
+ghost use Prim.Native.Nat.{_≤_, _<_};
+ghost use lib.ListN.{length, take};
+ghost use Rattle.answers.specs.Answers.{told, badLine};
+ghost use Rattle.answers.specs.Wrote.{Wrote};
 
 // Writes the answer to a line that is no form.
 pub fn bad(out: &mut [u8]) -> usize
@@ -17,8 +16,8 @@ pub fn bad(out: &mut [u8]) -> usize
 
 // Writes a refusal.
 pub fn refuse(n: u32, out: &mut [u8]) -> usize
-    requires { ⌜ (n < 10) × (12321 ≤ length (now out)) ⌝ }
-    ensures { λ r. ⌜ Wrote (utf8 "refused " ++ ((48 + n) ∷ 10 ∷ [])) r (now (out .entry)) (now (out .exit)) ⌝ }
+    requires { ⌜ (0 < n) × (n < 10) × (12321 ≤ length (now out)) ⌝ }
+    ensures { λ r. ⌜ Wrote (told n []) r (now (out .entry)) (now (out .exit)) ⌝ }
 {
     let mut line = *b"refused 0\n";
     line[8] = 48 + (n as u8);
@@ -28,7 +27,7 @@ pub fn refuse(n: u32, out: &mut [u8]) -> usize
 // Ends the line of a call's answer, whose phrase, if it is one, stands at the front of out.
 pub fn finish(a: Answer, out: &mut [u8]) -> usize
     requires { ⌜ (a .number < 10) × (a .length ≤ 12320) × (12321 ≤ length (now out)) ⌝ }
-    ensures { λ r. ⌜ Finished (a .number) (a .length) r (now (out .entry)) (now (out .exit)) ⌝ }
+    ensures { λ r. ⌜ Wrote (told (a .number) (take (a .length) (now (out .entry)))) r (now (out .entry)) (now (out .exit)) ⌝ }
 {
     let number = a.number;
     let length = a.length;

@@ -18,4 +18,4 @@ last-spec =
     let s = c .before .before .before .before .before .before .before in
     let e = one-line (s .args .line .now) (s .pre .1) (c .before .before .before .before .if1 .left) in
     let k = c .before .before .answer-line .ensures in
-    (rw e (k .size), k .room, rw e (k .bytes))))
+    (rw e (k .0 .0), k .1, rw e (k .0 .1))))

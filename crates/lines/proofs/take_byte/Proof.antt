@@ -21,13 +21,13 @@ returns c =
     let a = s .args in
     let p = take (a .held) (a .line .now) in
     let k = b .answer-line .ensures in
-    let fits : a .used + length (answerLine p) ≤ length (a .out .now) = omega (arith, k .size, k .room) in (
-      (omega arith, omega arith, omega (arith, k .room)),
+    let fits : a .used + length (answerLine p) ≤ length (a .out .now) = omega (arith, k .0 .0, k .1) in (
+      (omega arith, omega arith, omega (arith, k .1)),
       (
         refl,
         (
-          rw (k .bytes) (kept-before (a .out .now) (answerLine p) (a .used) fits),
-          rw (k .size, k .bytes) (ended p (a .b) (s .pre .2) _ (b .before .before .before .if1 .taken) (told-behind (a .out .now) (answerLine p) (a .used) fits)),
+          rw (k .0 .1) (kept-before (a .out .now) (answerLine p) (a .used) fits),
+          rw (k .0 .0, k .0 .1) (ended p (a .b) (s .pre .2) _ (b .before .before .before .if1 .taken) (told-behind (a .out .now) (answerLine p) (a .used) fits)),
         ),
       ),
     )
@@ -62,4 +62,4 @@ pub take-byte-spec : {M : Type 1} → statement M
 take-byte-spec =
     tie.close
     (tie.spec (λ c. search needs) (λ c. simp length-take (omega arith)) (λ c. search needs) (λ c. search needs) (λ c. search needs) (λ c κs. search needs)
-    (λ c. omega (arith, c .before .before .answer-line .ensures .room)) (λ c. search needs) (λ c. search needs) (λ c. search needs) (λ c. search needs) returns (λ c. search needs) returns-2 returns-3)
+    (λ c. omega (arith, c .before .before .answer-line .ensures .1)) (λ c. search needs) (λ c. search needs) (λ c. search needs) (λ c. search needs) returns (λ c. search needs) returns-2 returns-3)

@@ -29,6 +29,6 @@ say-year-spec =
     let e = year-asked (a .gender) (a .number) (a .case) t _ (c .before .before .before .before .before .before .before .before .before .before .before .before .before .before .pre .0) (toZ-ofZ o ∙ c .before .before .before .before .before .before .before .before .year-of .ensures) (k .ensures .0) in
     let n : refusalOf (judgeYear t) ≡ 0 = sym (c .before .before .before .before .before .before .before .before .before .before .number-of .ensures ∙ ap refusalOf (c .before .before .before .before .before .before .before .before .before .before .before .judge-year .ensures)) ∙ c .before .before .before .before .before .before .before .before .before .if1 .taken in
     rw n (told-line (k .result) (yearPhrase (a .number) (a .case) (yearOf t)) (a .out .now) _ (k .ensures .1) (c .before .before .before .before .before .before .before .before .before .before .before .before .before .before .pre .1) 0 _ _ e (c .before .before .finish .ensures)))
-    (λ c κs. let n = c .before .before .number-of .ensures in let j = judged-small (c .before .before .before .judge-year .result) in (omega (arith, n, j), omega (arith, c .before .before .before .before .before .before .pre .1)))
+    (λ c κs. let n = c .before .before .number-of .ensures in let j = judged-small (c .before .before .before .judge-year .result) in (omega (arith, n, c .before .if1 .left), omega (arith, n, j), omega (arith, c .before .before .before .before .before .before .pre .1)))
     (λ c. search needs)
     (λ c. let a = c .before .before .before .before .before .before .before .before .before .args in let t = a .text .now in told-refusal (refusalOf (judgeYear t)) _ (yearPhrase (a .number) (a .case) (yearOf t)) _ _ _ (c .before .before .before .before .before .number-of .ensures ∙ ap refusalOf (c .before .before .before .before .before .before .judge-year .ensures)) (c .before .before .before .before .if1 .left) (c .before .before .refuse .ensures)))
