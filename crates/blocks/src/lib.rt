@@ -7,10 +7,9 @@ ghost use Prim.Native.Nat.{_≤_};
 ghost use lib.ListN.{length, take};
 ghost use Rattle.lines.specs.Program.{isLine};
 
-// Feeds one block, and writes what comes of it as often as out is full. Where out has room for an answer at least one byte
-// is read; that none was is tested since a proved loop has to end.
+// Feeds one block, and writes what comes of it as often as out is full.
 fn pass(block: &[u8], line: &mut [u8], n: usize, out: &mut [u8]) -> usize
-    requires { ⌜ (n ≤ 513) × (length (now line) ≡ 513) × (isLine (take n (now line)) ≡ true) ⌝ }
+    requires { ⌜ (n ≤ 513) × (length (now line) ≡ 513) × (isLine (take n (now line)) ≡ true) × (12321 ≤ length (now out)) ⌝ }
     ensures { λ r. ⌜ (r ≤ 513) × (isLine (take r (now (line .exit))) ≡ true) ⌝ }
 {
     let mut held = n;
@@ -21,9 +20,6 @@ fn pass(block: &[u8], line: &mut [u8], n: usize, out: &mut [u8]) -> usize
         io::write_all(STDOUT_FILENO, &out[..used]);
         held = f.held;
         let more = f.at;
-        if more == 0 {
-            return held;
-        }
         at += more;
     }
     held
@@ -31,7 +27,7 @@ fn pass(block: &[u8], line: &mut [u8], n: usize, out: &mut [u8]) -> usize
 
 // Reads and passes on until the input ends. A proved loop has to end, so it counts its turns down.
 fn passes(line: &mut [u8], out: &mut [u8]) -> usize
-    requires { ⌜ length (now line) ≡ 513 ⌝ }
+    requires { ⌜ (length (now line) ≡ 513) × (12321 ≤ length (now out)) ⌝ }
     ensures { λ r. ⌜ (r ≤ 513) × (isLine (take r (now (line .exit))) ≡ true) ⌝ }
 {
     let mut block = io::large_buffer();

@@ -53,6 +53,7 @@ pub fn feed(block: &[u8], line: &mut [u8], n: usize, out: &mut [u8]) -> Fed
     ensures { λ r. ⌜ isLine (take (r .held) (now (line .exit))) ≡ true ⌝ }
     ensures { λ r. ⌜ Answered (take n (now (line .entry))) (take (r .at) (now (block .entry))) (take (r .used) (now (out .exit))) (take (r .held) (now (line .exit))) ⌝ }
     ensures { λ r. ⌜ (r .at < length (now (block .entry)) → length (now (out .entry)) < r .used + 12321) ⌝ }
+    ensures { λ r. ⌜ (12321 ≤ length (now (out .entry)) → 0 < length (now (block .entry)) → 0 < r .at) ⌝ }
 {
     let mut held = n;
     let mut used = 0;

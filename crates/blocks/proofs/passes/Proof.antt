@@ -32,7 +32,7 @@ passes-spec =
     (λ c κs. tt)
     (λ c. c .count .ensures .0 .0)
     (λ c. c .before .count .ensures .0 .1)
-    (λ c κs. let i = c .before .before .before .before .before .before .before .before .before .before .loop .inv in (i .0, i .1 ∙ c .before .before .before .before .before .before .before .before .before .before .before .before .before .before .pre, i .4))
+    (λ c κs. let i = c .before .before .before .before .before .before .before .before .before .before .loop .inv in (i .0, i .1 ∙ c .before .before .before .before .before .before .before .before .before .before .before .before .before .before .pre .0, i .4, omega (arith, i .2, c .before .before .before .before .before .before .before .before .before .before .before .before .before .before .pre .1)))
     (λ c. omega (arith, c .before .before .before .before .before .before .before .before .before .before .before .before .before .before .loop-test .taken))
     (λ c. omega (arith, c .before .before .before .before .before .before .before .before .before .before .before .before .before .before .loop-test .taken))
     (λ c. let i = c .before .before .before .before .before .before .before .before .before .before .before .before .before .before .before .loop .inv in let p = c .before .before .before .before .pass in
