@@ -22,7 +22,7 @@ use Rattle.figures.specs.declared.Judged.the-variants.{Fine, Malformed, Negativ
 use Rattle.uk.specs.Settings.{inRange}
 use Rattle.calls_ordinal.specs.Calls.{unlessSettings, yearPhrase}
 use Rattle.calls_fr.specs.Calls.{french, inRange as inFrenchRange}
-use Rattle.forms.specs.Line.{first, rest, kindOf, languageOf, genderOf, numberOf as numberWord, caseOf, feminineOf, reformedOf, regionOf, closed}
+use Rattle.forms.specs.Line.{first, rest, kindOf, languageOf, genderOf, grammaticalNumberOf, caseOf, feminineOf, reformedOf, regionOf, closed}
 use Rattle.forms.specs.declared.Kind.{Kind}
 use Rattle.forms.specs.declared.Language.{Language}
 use Rattle.forms.specs.declared.Language.the-variants.{Ukrainian, French}
@@ -130,7 +130,7 @@ year-asked g n c t y i e a = rw (i, e) at a
 
 -- from the settings' words to the form
 module _ (k : Kind) (s t : List ℕ) (x y z r : ℕ) (xs ys : List ℕ) where
-  pub settle-uk : x ≡ genderOf (first s) → y ≡ numberWord (first (rest s)) → z ≡ caseOf (first (rest (rest s))) → t ≡ rest (rest (rest s))
+  pub settle-uk : x ≡ genderOf (first s) → y ≡ grammaticalNumberOf (first (rest s)) → z ≡ caseOf (first (rest (rest s))) → t ≡ rest (rest (rest s))
       → inRange x y z ≡ true → Wrote (ukrainian k x y z t) r xs ys → Wrote (settled k Ukrainian s) r xs ys
   unfolding settled
   settle-uk ex ey ez et i w = rw (← ex, ← ey, ← ez, ← et, i) w
@@ -141,7 +141,7 @@ module _ (k : Kind) (s t : List ℕ) (x y z r : ℕ) (xs ys : List ℕ) where
   settle-fr ex ey ez et i w = rw (← ex, ← ey, ← ez, ← et, i) w
 
 module _ (k : Kind) (s : List ℕ) (x y z r : ℕ) (xs ys : List ℕ) where
-  pub unsettled-uk : x ≡ genderOf (first s) → y ≡ numberWord (first (rest s)) → z ≡ caseOf (first (rest (rest s)))
+  pub unsettled-uk : x ≡ genderOf (first s) → y ≡ grammaticalNumberOf (first (rest s)) → z ≡ caseOf (first (rest (rest s)))
       → inRange x y z ≡ false → Wrote badLine r xs ys → Wrote (settled k Ukrainian s) r xs ys
   unfolding settled
   unsettled-uk ex ey ez i w = rw (← ex, ← ey, ← ez, i) w

@@ -16,7 +16,7 @@ use Rattle.calls_ordinal.specs.Calls.{unlessSettings, ordinalText, digitOrdinal
 use Rattle.ordinal.specs.DigitOrdinal.{digitOrdinal}
 use Rattle.calls_money.specs.MoneyCalls.{refusedAmount, moneyPhrase}
 use Rattle.calls_fr.specs.Calls.{french, firstRefusal, cardinalRefusal, ordinalRefusal, cardinalOf, ordinalOf, inRange as inFrenchRange}
-use Rattle.forms.specs.Line.{first, rest, kindOf, languageOf, genderOf, numberOf, caseOf, feminineOf, reformedOf, regionOf, run, inner, closed}
+use Rattle.forms.specs.Line.{first, rest, kindOf, languageOf, genderOf, grammaticalNumberOf, caseOf, feminineOf, reformedOf, regionOf, run, inner, closed}
 use Rattle.forms.specs.declared.Kind.{Kind}
 use Rattle.forms.specs.declared.Kind.the-variants.{Card, Ord, Num, Year, Money, Other}
 use Rattle.forms.specs.declared.Language.{Language}
@@ -56,8 +56,8 @@ frenchForm Other f o r s = badLine
 -- a form of which the settings' three words and what follows them are left; a name that is no setting makes a bad line
 unfoldable pub settled : Kind → Language → List ℕ → List ℕ
 settled k Ukrainian s =
-    cond (inRange (genderOf (first s)) (numberOf (first (rest s))) (caseOf (first (rest (rest s)))))
-    (ukrainian k (genderOf (first s)) (numberOf (first (rest s))) (caseOf (first (rest (rest s)))) (rest (rest (rest s))))
+    cond (inRange (genderOf (first s)) (grammaticalNumberOf (first (rest s))) (caseOf (first (rest (rest s)))))
+    (ukrainian k (genderOf (first s)) (grammaticalNumberOf (first (rest s))) (caseOf (first (rest (rest s)))) (rest (rest (rest s))))
     badLine
 settled k French s =
     cond (inFrenchRange (french (feminineOf (first s)) (reformedOf (first (rest s))) (regionOf (first (rest (rest s))))))

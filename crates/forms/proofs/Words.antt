@@ -105,31 +105,37 @@ module _ (a b : Bool) (k p : ℕ) (e : p ≡ cond a 0 (cond b 1 2)) where
       go false true e = absurd (omega arith)
       go false false e = refl
 
--- the place among three names, and three names more
+-- the place among two names and among three, counted as the definition counts it
+pub counted2 : (a b : Bool) (p : ℕ) → p ≡ cond a 0 (cond b 1 2) → p ≡ cond a 0 (suc (cond b 0 1))
+counted2 true b p e = e
+counted2 false true p e = e
+counted2 false false p e = e
+
+pub counted3 : (a b c : Bool) (p : ℕ) → p ≡ cond a 0 (cond b 1 (cond c 2 3)) → p ≡ cond a 0 (suc (cond b 0 (suc (cond c 0 1))))
+counted3 true b c p e = e
+counted3 false true c p e = e
+counted3 false false true p e = e
+counted3 false false false p e = e
+
+-- the place among three names, and k names more
 module _ (a b c : Bool) (k p : ℕ) (e : p ≡ cond a 0 (cond b 1 (cond c 2 3))) where
-  pub early3 : p < 3 → p ≡ cond a 0 (cond b 1 (cond c 2 k))
+  pub early3 : p < 3 → p ≡ cond a 0 (suc (cond b 0 (suc (cond c 0 (suc k)))))
   early3 h = go a b c e
     where
-      go : (a b c : Bool) → p ≡ cond a 0 (cond b 1 (cond c 2 3)) → p ≡ cond a 0 (cond b 1 (cond c 2 k))
+      go : (a b c : Bool) → p ≡ cond a 0 (cond b 1 (cond c 2 3)) → p ≡ cond a 0 (suc (cond b 0 (suc (cond c 0 (suc k)))))
       go true b c e = e
       go false true c e = e
       go false false true e = e
       go false false false e = absurd (omega arith)
 
-  pub late3 : 3 ≤ p → k ≡ cond a 0 (cond b 1 (cond c 2 k))
+  pub late3 : 3 ≤ p → 3 + k ≡ cond a 0 (suc (cond b 0 (suc (cond c 0 (suc k)))))
   late3 h = go a b c e
     where
-      go : (a b c : Bool) → p ≡ cond a 0 (cond b 1 (cond c 2 3)) → k ≡ cond a 0 (cond b 1 (cond c 2 k))
+      go : (a b c : Bool) → p ≡ cond a 0 (cond b 1 (cond c 2 3)) → 3 + k ≡ cond a 0 (suc (cond b 0 (suc (cond c 0 (suc k)))))
       go true b c e = absurd (omega arith)
       go false true c e = absurd (omega arith)
       go false false true e = absurd (omega arith)
-      go false false false e = refl
-
-pub three-on : (a b c : Bool) (p : ℕ) → p ≡ cond a 0 (cond b 1 (cond c 2 3)) → 3 + p ≡ cond a 3 (cond b 4 (cond c 5 6))
-three-on true b c p e = omega arith
-three-on false true c p e = omega arith
-three-on false false true p e = omega arith
-three-on false false false p e = omega arith
+      go false false false e = omega arith
 
 pub at-most-3 : (a b c : Bool) (p : ℕ) → p ≡ cond a 0 (cond b 1 (cond c 2 3)) → p ≤ 3
 at-most-3 true b c p e = omega arith

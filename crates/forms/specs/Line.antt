@@ -1,6 +1,6 @@
 -- The form of a line (01, "The program phrases"): words divided by single spaces, the names of kinds, languages and settings, and texts.
 -- Assumes nothing.
-use Prim.Native.Nat.{ℕ, zero, suc, _-_}
+use Prim.Native.Nat.{ℕ, suc, _-_}
 use Prim.Native.String.{String}
 use mathlib.Core.Bool.{Bool, true, false, cond, not, _&&_}
 use mathlib.Core.List.{List, [], _∷_}
@@ -30,14 +30,10 @@ same [] (c ∷ w) = false
 same (b ∷ v) [] = false
 same (b ∷ v) (c ∷ w) = eqb b c && same v w
 
--- the place of a word among names of which the first has place k; the place behind the last where it is none of them
-abbrev pub placeFrom : ℕ → List String → Word → ℕ
-placeFrom k [] w = k
-placeFrom k (n ∷ ns) w = cond (same (utf8 n) w) k (placeFrom (suc k) ns w)
-
 -- the place of a word among names, from 0 on; how many they are where it is none of them
 abbrev pub placeIn : List String → Word → ℕ
-placeIn ns w = placeFrom 0 ns w
+placeIn [] w = 0
+placeIn (n ∷ ns) w = cond (same (utf8 n) w) 0 (suc (placeIn ns w))
 
 -- "Kinds: card, ord, num, year, money", with the bracket that opens the form
 unfoldable pub kindOf : Word → Kind
@@ -57,8 +53,8 @@ unfoldable pub genderOf : Word → ℕ
 genderOf w = placeIn ("m" ∷ "f" ∷ "n" ∷ []) w
 
 -- the grammatical number
-unfoldable pub numberOf : Word → ℕ
-numberOf w = placeIn ("sing" ∷ "plur" ∷ []) w
+unfoldable pub grammaticalNumberOf : Word → ℕ
+grammaticalNumberOf w = placeIn ("sing" ∷ "plur" ∷ []) w
 
 -- the case, with the bracket that closes the settings
 unfoldable pub caseOf : Word → ℕ

@@ -3,7 +3,7 @@ use super::Kind;
 use super::Language;
 ghost use mathlib.Core.Path.{_≡_};
 ghost use mathlib.Core.Bool.{cond};
-ghost use Rattle.forms.specs.Line.{same as sameAs, kindOf, languageOf, genderOf, numberOf, caseOf, feminineOf, reformedOf, regionOf};
+ghost use Rattle.forms.specs.Line.{same as sameAs, kindOf, languageOf, genderOf, grammaticalNumberOf, caseOf, feminineOf, reformedOf, regionOf};
 
 // Whether s is w.
 fn is(s: &[u8], w: &[u8]) -> bool
@@ -84,7 +84,7 @@ pub fn gender_of(s: &[u8]) -> u32
 
 // 01's number of a grammatical number.
 pub fn number_of(s: &[u8]) -> u32
-    ensures { λ r. ⌜ r ≡ numberOf (now (s .entry)) ⌝ }
+    ensures { λ r. ⌜ r ≡ grammaticalNumberOf (now (s .entry)) ⌝ }
 {
     place2(s, b"sing", b"plur")
 }

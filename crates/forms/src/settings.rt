@@ -4,7 +4,7 @@ use super::names;
 ghost use mathlib.Core.Path.{_≡_};
 ghost use Prim.Native.Nat.{_-_, _≤_};
 ghost use lib.ListN.{length, take, drop};
-ghost use Rattle.forms.specs.Line.{first as firstOf, rest as restOf, genderOf, numberOf, caseOf, feminineOf, reformedOf, regionOf};
+ghost use Rattle.forms.specs.Line.{first as firstOf, rest as restOf, genderOf, grammaticalNumberOf, caseOf, feminineOf, reformedOf, regionOf};
 
 // The setting numbers of three words, in their order, and where what is behind them starts.
 pub struct Three {
@@ -47,7 +47,7 @@ fn three_words(s: &[u8]) -> Spans
 
 // Gender, grammatical number and case.
 pub fn ukrainian(s: &[u8]) -> Three
-    ensures { λ r. ⌜ (r .a ≡ genderOf (firstOf (now (s .entry)))) × (r .b ≡ numberOf (firstOf (restOf (now (s .entry))))) × (r .c ≡ caseOf (firstOf (restOf (restOf (now (s .entry)))))) ⌝ }
+    ensures { λ r. ⌜ (r .a ≡ genderOf (firstOf (now (s .entry)))) × (r .b ≡ grammaticalNumberOf (firstOf (restOf (now (s .entry))))) × (r .c ≡ caseOf (firstOf (restOf (restOf (now (s .entry)))))) ⌝ }
     ensures { λ r. ⌜ (drop (r .next) (now (s .entry)) ≡ restOf (restOf (restOf (now (s .entry))))) × (r .next ≤ length (now (s .entry))) ⌝ }
 {
     let w = three_words(s);

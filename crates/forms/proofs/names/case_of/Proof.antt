@@ -1,15 +1,15 @@
 -- `forms::names::case_of` meets its contract.
 -- Assumes nothing.
-use Prim.Native.Nat.{ℕ}
+use Prim.Native.Nat.{ℕ, _+_}
 use Prim.Native.String.{String}
-use mathlib.Core.Path.{_≡_, _∙_}
+use mathlib.Core.Path.{ap, _∙_}
 use mathlib.Core.Bool.{Bool}
 use mathlib.Core.List.{List, [], _∷_}
 use native.Mathlib.Omega.{arith}
 use borrow.Author.Needs.{needs}
 use Rattle.base.specs.Utf8.{utf8}
-use Rattle.forms.specs.Line.{same, caseOf, placeFrom}
-use Rattle.forms.proofs.Words.{early3, late3, three-on, at-most-3}
+use Rattle.forms.specs.Line.{same, caseOf, placeIn}
+use Rattle.forms.proofs.Words.{early3, late3, counted3, at-most-3}
 use Rattle.forms.proofs.names.case_of.Statement.{statement}
 use Rattle.forms.proofs.names.case_of.Tie as tie
 
@@ -27,5 +27,5 @@ case-of-spec =
     (λ c. let s = c .before .before .before .before .before .before .before .before .before .before .args .s .now in
     omega (arith, at-most-3 (is "acc)" s) (is "ins)" s) (is "loc)" s) _ (c .place32 .ensures)))
     (λ c. let s = c .before .before .before .before .before .before .before .before .before .before .args .s .now in
-    three-on (is "acc)" s) (is "ins)" s) (is "loc)" s) _ (c .place32 .ensures)
-    ∙ late3 (is "nom)" s) (is "gen)" s) (is "dat)" s) (placeFrom 3 ("acc)" ∷ "ins)" ∷ "loc)" ∷ []) s) _ (c .before .before .before .before .before .place3 .ensures) (c .before .before .before .before .if1 .left)))
+    ap (λ (k : ℕ). 3 + k) (counted3 (is "acc)" s) (is "ins)" s) (is "loc)" s) _ (c .place32 .ensures))
+    ∙ late3 (is "nom)" s) (is "gen)" s) (is "dat)" s) (placeIn ("acc)" ∷ "ins)" ∷ "loc)" ∷ []) s) _ (c .before .before .before .before .before .place3 .ensures) (c .before .before .before .before .if1 .left)))

@@ -1,10 +1,15 @@
 -- `forms::names::feminine_of` meets its contract.
 -- Assumes nothing.
 use borrow.Author.Needs.{needs}
-use Rattle.forms.specs.Line.{feminineOf}
+use Rattle.base.specs.Utf8.{utf8}
+use Rattle.forms.specs.Line.{same, feminineOf}
+use Rattle.forms.proofs.Words.{counted2}
 use Rattle.forms.proofs.names.feminine_of.Statement.{statement}
 use Rattle.forms.proofs.names.feminine_of.Tie as tie
 
 pub feminine-of-spec : {M : Type 1} → statement M
 unfolding feminineOf
-feminine-of-spec = tie.close (tie.spec (λ c. search needs) (λ c. search needs) (λ c κs. search needs) (λ c. c .place2 .ensures))
+feminine-of-spec =
+    tie.close
+    (tie.spec (λ c. search needs) (λ c. search needs) (λ c κs. search needs)
+    (λ c. let s = c .before .before .before .before .args .s .now in counted2 (same (utf8 "m") s) (same (utf8 "f") s) _ (c .place2 .ensures)))

@@ -1,10 +1,15 @@
 -- `forms::names::number_of` meets its contract.
 -- Assumes nothing.
 use borrow.Author.Needs.{needs}
-use Rattle.forms.specs.Line.{numberOf}
+use Rattle.base.specs.Utf8.{utf8}
+use Rattle.forms.specs.Line.{same, grammaticalNumberOf}
+use Rattle.forms.proofs.Words.{counted2}
 use Rattle.forms.proofs.names.number_of.Statement.{statement}
 use Rattle.forms.proofs.names.number_of.Tie as tie
 
 pub number-of-spec : {M : Type 1} → statement M
-unfolding numberOf
-number-of-spec = tie.close (tie.spec (λ c. search needs) (λ c. search needs) (λ c κs. search needs) (λ c. c .place2 .ensures))
+unfolding grammaticalNumberOf
+number-of-spec =
+    tie.close
+    (tie.spec (λ c. search needs) (λ c. search needs) (λ c κs. search needs)
+    (λ c. let s = c .before .before .before .before .args .s .now in counted2 (same (utf8 "sing") s) (same (utf8 "plur") s) _ (c .place2 .ensures)))

@@ -1,10 +1,15 @@
 -- `forms::names::reformed_of` meets its contract.
 -- Assumes nothing.
 use borrow.Author.Needs.{needs}
-use Rattle.forms.specs.Line.{reformedOf}
+use Rattle.base.specs.Utf8.{utf8}
+use Rattle.forms.specs.Line.{same, reformedOf}
+use Rattle.forms.proofs.Words.{counted2}
 use Rattle.forms.proofs.names.reformed_of.Statement.{statement}
 use Rattle.forms.proofs.names.reformed_of.Tie as tie
 
 pub reformed-of-spec : {M : Type 1} → statement M
 unfolding reformedOf
-reformed-of-spec = tie.close (tie.spec (λ c. search needs) (λ c. search needs) (λ c κs. search needs) (λ c. c .place2 .ensures))
+reformed-of-spec =
+    tie.close
+    (tie.spec (λ c. search needs) (λ c. search needs) (λ c κs. search needs)
+    (λ c. let s = c .before .before .before .before .args .s .now in counted2 (same (utf8 "old") s) (same (utf8 "new") s) _ (c .place2 .ensures)))

@@ -4,7 +4,7 @@ use mathlib.Core.Path.{_≡_, ap, _∙_}
 use native.Mathlib.Omega.{arith}
 use borrow.Author.Needs.{needs}
 use lib.ListN.{length-take}
-use Rattle.forms.specs.Line.{genderOf, numberOf, caseOf}
+use Rattle.forms.specs.Line.{genderOf, grammaticalNumberOf, caseOf}
 use Rattle.forms.proofs.settings.ukrainian.Statement.{statement}
 use Rattle.forms.proofs.settings.ukrainian.Tie as tie
 
@@ -16,4 +16,4 @@ ukrainian-spec =
     (λ c κs. search needs) (λ c. search needs) (λ c. search needs) (λ c. search needs) (λ c κs. search needs)
     (λ c. search needs) (λ c. search needs) (λ c. search needs) (λ c κs. search needs)
     (λ c. let w = c .before .before .before .before .before .before .three-words .ensures in
-    ((c .before .before .before .before .gender-of .ensures ∙ ap genderOf (w .0 .0), c .before .before .number-of .ensures ∙ ap numberOf (w .0 .1), c .case-of .ensures ∙ ap caseOf (w .0 .2)), w .1 .1)))
+    ((c .before .before .before .before .gender-of .ensures ∙ ap genderOf (w .0 .0), c .before .before .number-of .ensures ∙ ap grammaticalNumberOf (w .0 .1), c .case-of .ensures ∙ ap caseOf (w .0 .2)), w .1 .1)))
