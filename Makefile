@@ -1,7 +1,7 @@
 # Yokepear. Each target works from a fresh checkout; the toolchain's command `rt` must be on the PATH.
 .PHONY: test phrases lib host compare bench clean
 
-# The gate: every proof and every must-fail edit, then the host's tests. The last line is the gate's verdict.
+# The gate: every proof and every must-fail edit, then the host's tests and the comparison. The last line is the gate's verdict.
 test:
 	bash tools/test.sh
 

@@ -1,5 +1,5 @@
 #!/usr/bin/env bash
-# The test command: the gate over all crates, then the host's tests; ends in the gate's verdict 'N passed, M failed'.
+# The test command: the gate over all crates, then the host's tests and the comparison; ends in the gate's verdict 'N passed, M failed'.
 set -u
 cd "$(dirname "${BASH_SOURCE[0]}")/.."
 mkdir -p target-log

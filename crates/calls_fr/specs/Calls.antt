@@ -5,7 +5,7 @@ use mathlib.Core.Path.{_≡_}
 use mathlib.Core.Bool.{Bool, true, false, cond, _&&_}
 use mathlib.Core.List.{List}
 use lib.Dec.{eqb, ltb}
-use Rattle.figures.specs.Text.{value, text, negative, unsigned, signedText}
+use Rattle.figures.specs.Text.{value, negative, unsigned, signedText}
 use Rattle.figures.specs.Groups.{groupsOf}
 use Rattle.figures.specs.Refusals.{judgeDigits, numberOf}
 use Rattle.fr.specs.Cardinal.{cardinalPhrase}

@@ -4,7 +4,7 @@ use fr::French;
 ghost use mathlib.Core.Path.{_≡_};
 ghost use mathlib.Core.List.{List, _∷_, _++_};
 ghost use Prim.Native.Nat.{ℕ, _+_, _-_, _%_, _≤_, _<_};
-ghost use lib.Dec.{ltb};
+ghost use lib.Dec.{eqb, ltb};
 ghost use lib.ListN.{length, drop};
 ghost use Rattle.base.specs.Decides.{Decides};
 ghost use Rattle.figures.specs.Groups.{total};
@@ -12,7 +12,6 @@ ghost use Rattle.fr.specs.Rules.{InRange};
 ghost use Rattle.fr.specs.Cardinal.{cardinalPhrase};
 ghost use Rattle.fr.specs.Ordinal.{ordinalPhrase};
 ghost use Rattle.spell_fr.specs.Top.{Groups34};
-ghost use lib.Dec.{eqb};
 ghost use Rattle.read_fr.specs.Reading.{meanings, grow as growOf, times as timesOf, one as oneOf, guess as guessOf, seems, reads, isMinus, unsigned, guessed};
 ghost use Rattle.read_fr.specs.Promise.{ReadOf, ReadNth};
 
