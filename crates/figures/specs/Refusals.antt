@@ -22,7 +22,7 @@ numberOf Large = 5
 abbrev pub judged : Bool → Bool → Bool → Judged
 judged malformed refused above = cond malformed Malformed (cond refused Negative (cond above Large Fine))
 
--- a cardinal or an ordinal, of "at most 66 digits" in Ukrainian and 102 in French; "Ordinals and money: not negative"
+-- a cardinal, which may be signed, or an ordinal, which is "not negative"; of at most so many digits, 66 in Ukrainian and 102 in French
 abbrev pub judgeDigits : Bool → ℕ → List ℕ → Judged
 judgeDigits signed most xs = judged (not (wellFormed xs)) (negative xs && not signed) (ltb most (length (unsigned xs)))
 

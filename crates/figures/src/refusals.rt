@@ -90,7 +90,7 @@ fn limited(formed: bool, refused: bool, w: &[u8], l: &[u8]) -> Judged
     }
 }
 
-// What is refused of a digit ordinal's text. Digits have no sign, so that a sign is looked for in other texts alone.
+// What is refused of a digit ordinal's text. A plain text has no sign; a well formed one that is not plain has one, so no sign is looked for.
 pub fn judge_digit_ordinal(s: &[u8]) -> Judged
     ensures { λ r. ⌜ r ≡ judgeDigitOrdinal (now (s .entry)) ⌝ }
 {
