@@ -1,4 +1,4 @@
--- The words of a Ukrainian ordinal (01, "Ukrainian ordinals, years, codes"), in the ported style. A number is given by its groups of three
+-- The words of a Ukrainian ordinal (01, "Ukrainian ordinals, years, codes"; `to_ordinal` in uk.rs). A number is given by its groups of three
 -- digits, the lowest first; genders, grammatical numbers and cases are numbered as for cardinals.
 -- Assumes nothing.
 use Prim.Native.Nat.{ℕ, zero, suc, _-_, _/_, _%_}
@@ -25,7 +25,7 @@ flexion true gender (suc number) case = form1 adjectiveSoftFlexionsPlural case
 flexion false gender zero case = form2 adjectiveHardFlexionsSingular gender case
 flexion false gender (suc number) case = form1 adjectiveHardFlexionsPlural case
 
--- the words that a compound is made of: genitive, "unit 1 is ONE_BASE, 2 is masculine"
+-- the words that a compound is made of: genitive, "unit 1 is ONE_BASE, 2 is masculine". Of these words a compound has no zero, minus or noun
 unfoldable pub compounds : Words
 compounds = record {
   zeroWord = ukrainian 0 1 .zeroWord;
@@ -79,8 +79,8 @@ unfoldable pub zeros : List ℕ → Bool
 zeros [] = true
 zeros (g ∷ gs) = eqb g 0 && zeros gs
 
--- the words of an ordinal: "groups above the lowest nonzero one are nominative cardinals; the lowest carries the ending", whose softness goes by
--- the number's last two digits, which stand in its group at order 0
+-- the words of an ordinal: "groups above the lowest nonzero one are nominative cardinals", which are all that is left once that one is set to 0;
+-- "the lowest carries the ending", whose softness goes by the number's last two digits, which stand in its group at order 0
 unfoldable pub ordinalWords : ℕ → ℕ → ℕ → List ℕ → List Word
 ordinalWords gender number case gs =
     groupsBelow (ukrainian 0 0) 22 (set gs (lowest gs) 0) ++

@@ -17,10 +17,11 @@ use Rattle.uk.specs.Ukrainian.{unitForm, many}
 abbrev pub agreement : ℕ → ℕ → ℕ
 agreement t u = cond (many t u) 2 (cond (eqb u 1) 0 1)
 
--- an ending by agreement
+-- an ending of a table of scale nouns, by agreement as one number and by case
 unfoldable pub ending : List (List String) → ℕ → ℕ → Word
 ending t a case = form2 t (cond (eqb a 0) 0 1) (cond (eqb a 2) (cond (eqb case 0) 1 case) case)
 
+-- the row ids of a case: at each place stands the number of the text that the tables have for it
 pub record Column (case : ℕ) (ids : List ℕ) : Type 0 where
   pub size : length ids ≡ 85
   pub unitAt : (gender u : ℕ) → gender < 3 → 0 < u → u < 10 → text (getD ids (9 * gender + u) 0) ≡ unitForm gender case u

@@ -28,7 +28,7 @@ teenForm case v = form1 teenBases (v - 10) ++ form1 teenFlexions case
 abbrev pub many : ℕ → ℕ → Bool
 many t u = (eqb u 0 || ltb 4 u) || eqb t 1
 
--- plural; else for units 1 singular; else plural
+-- with many, plural; else for units 1 singular; else plural
 abbrev pub agreedNumber : ℕ → ℕ → ℕ
 agreedNumber t u = cond (many t u) 1 (cond (eqb u 1) 0 1)
 
