@@ -1,4 +1,4 @@
--- The two calls of Ukrainian money: what is refused, the phrase of a money text, and the value of an amount as a money text.
+-- The two calls of Ukrainian money (01, "Ukrainian money"): what is refused, the phrase of a money text, and the value of an amount as a money text.
 -- Assumes nothing.
 use Prim.Native.Nat.{ℕ}
 use mathlib.Core.Path.{_≡_}
@@ -16,11 +16,11 @@ use Rattle.money.specs.Codes.{placeOf}
 use Rattle.money.specs.Money.{moneyWords}
 use Rattle.money.specs.MoneyGrammar.{SaysMoney}
 
--- 3, 4 or 5 where a money text is refused, else 0
+-- 3, 4 or 5 where a money text is refused, else 0 (01, "Number texts")
 abbrev pub refusedText : List ℕ → ℕ
 refusedText t = numberOf (judgeMoney t)
 
--- none of the conditions 3 to 5 holds of the text
+-- "A text is admitted for a kind if none of the conditions 3 to 5 holds of it" (01, "Phrase grammar and reader")
 abbrev pub Admitted : List ℕ → Type 0
 Admitted t = refusedText t ≡ 0
 

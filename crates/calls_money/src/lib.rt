@@ -1,4 +1,5 @@
-// Ukrainian money from bytes to bytes, both ways: settings, code, text, sign, size and room are checked in 01's order.
+// Ukrainian money from bytes to bytes, both ways: settings, code, text, sign, size and room are checked in 01's order. No phrase has more than
+// 12,320 bytes: the program keeps that much room for an answer.
 use base::Answer;
 use read_money::Seen;
 use uk::Settings;

@@ -1,4 +1,5 @@
--- What the calls for ordinals, digit ordinals and years refuse, and what they say (01, "Number texts", "Where each refusal arises").
+-- What the calls for ordinals, digit ordinals and years refuse, and what they say (01, "Number texts", "Where each refusal arises", "Ukrainian
+-- ordinals, years, codes").
 -- Assumes nothing.
 use Prim.Native.Nat.{ℕ}
 use mathlib.Core.Bool.{cond, false}
@@ -24,10 +25,10 @@ ordinalText text = numberOf (judgeDigits false 66 text)
 abbrev pub digitOrdinalText : List ℕ → ℕ
 digitOrdinalText text = numberOf (judgeDigitOrdinal text)
 
--- the phrase of an ordinal's text
+-- the ordinal of an admitted number text
 unfoldable pub ordinalPhrase : ℕ → ℕ → ℕ → List ℕ → List ℕ
 ordinalPhrase gender number case text = joined (ordinalWords gender number case (groupsOf 22 (value text)))
 
--- the phrase of a year
+-- the phrase of a year, by its magnitude and whether it is "year 0 and below"
 unfoldable pub yearPhrase : ℕ → ℕ → ℤ → List ℕ
 yearPhrase number case year = joined (yearWords number case (early year) (groupsOf 22 (natAbs year)))

@@ -1,4 +1,5 @@
-// Ukrainian ordinals, digit ordinals and years from bytes to bytes.
+// Ukrainian ordinals, digit ordinals and years from bytes to bytes. No phrase has more than 12,320 bytes: the program keeps that much room for an
+// answer.
 mod digits; // digits.rt: digit ordinals
 
 use base::Answer;

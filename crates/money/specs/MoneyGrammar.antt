@@ -19,7 +19,7 @@ limit = 18446744073709551615
 pub data Counted (name : Name) (case : ℕ) : List Word → ℕ → Type 0 where
   counted : {ws : List Word} {n : ℕ} → Sentence (ukrainian (name .gender) case) ws false n → Counted name case (ws ++ agreedName name case n) n
 
--- an amount, its whole part and its hundredths: a whole amount, which may be zero; hundredths alone; or both
+-- an amount, its whole part and its hundredths: "zero stands only as a whole amount alone, and hundredths are 1 to 99"
 pub data Amount (c : Currency) (case : ℕ) : List Word → ℕ → ℕ → Type 0 where
   whole : {ws : List Word} {n : ℕ} → Counted (c .main) case ws n → n ≤ limit → Amount c case ws n 0
   hundredths : {ws : List Word} {h : ℕ} → Counted (c .fraction) case ws h → 0 < h → h < 100 → Amount c case ws 0 h
