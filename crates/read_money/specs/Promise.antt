@@ -1,4 +1,4 @@
--- What the reader of money promises, by the grammar alone.
+-- What the reader of money promises, by the grammar alone (01, "Phrase grammar and reader").
 -- Assumes nothing.
 use Prim.Native.Nat.{ℕ, _<_}
 use mathlib.Core.Path.{_≡_}
@@ -10,6 +10,7 @@ use Rattle.money.specs.MoneyGrammar.{SaysMoney}
 use Rattle.read_money.specs.declared.Seen.{Seen}
 use Rattle.read_money.specs.declared.Seen.the-variants.{Refused, Amount}
 
+-- the bytes s are read as r, with the groups gs of the whole part
 pub record ReadMoney (c : Currency) (case : ℕ) (s : List ℕ) (r : Seen) (gs : List ℕ) : Type 0 where
   -- bytes that are an amount are read with the groups of its whole part and its hundredths
   pub reads : (n h : ℕ) → SaysMoney c case s n h → (r ≡ Amount h) × (total gs ≡ n)

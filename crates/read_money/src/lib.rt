@@ -24,6 +24,7 @@ pub enum Seen {
     Amount(u32),
 }
 
+// A group as a wider number.
 fn wide(x: u16) -> u32
     ensures { λ r. ⌜ r ≡ x ⌝ }
 {

@@ -1,4 +1,4 @@
--- What the reader of cardinals promises, by the grammar alone.
+-- What the reader of cardinals promises, by the grammar alone (01, "Phrase grammar and reader").
 -- Assumes nothing.
 use mathlib.Core.Path.{_≡_}
 use mathlib.Core.Bool.{Bool, true, false}
@@ -15,6 +15,7 @@ abbrev pub seenAs : Bool → Seen
 seenAs true = Negative
 seenAs false = Plain
 
+-- the bytes s are read as r, with the groups gs
 pub record ReadOf (W : Words) (s : List ℕ) (r : Seen) (gs : List ℕ) : Type 0 where
   -- bytes that are a sentence are read with its sign and its groups
   pub reads : (minus : Bool) (n : ℕ) → Says W s minus n → (r ≡ seenAs minus) × (total gs ≡ n)
