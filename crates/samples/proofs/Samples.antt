@@ -90,7 +90,7 @@ unread-two =
     no-sentence 0 0 twoThousand false 2000 (lit< tt) (lit< tt) unsigned-two sum-two
     (apart (joined (cardinalWords (ukrainian 0 0) false false (groupsOf 22 2000))) twoThousand refl)
 
--- what habit says
+-- "Errors of habit"
 genitive-after-five : Holds (never (card 0 0 3 "5000") "пʼять тисяч")
 unfolding form1 form2 form3 groupsOf zeros gendered units teenBases teenFlexions tens hundreds thousandFlexions megaBases megaFlexions unitForm teenForm scaleEnding nounForm ukrainian groupOf groupsBelow cardinalWords cardinal bytesOf
 genitive-after-five = other (replyTo (card 0 0 3 "5000")) (utf8 "пʼять тисяч") refl

@@ -37,8 +37,8 @@ replyTo (money g n c k t) = reply (refusedAmount g n c (utf8 k) (utf8 t)) (money
 replyTo (frenchCard f o r t) = reply (firstRefusal (french f o r) (cardinalRefusal (utf8 t))) (cardinalOf (french f o r) (utf8 t))
 replyTo (frenchOrd f o r t) = reply (firstRefusal (french f o r) (ordinalRefusal (utf8 t))) (ordinalOf (french f o r) (utf8 t))
 
--- a line of the table: a call's phrase, its refusal, that it is not refused, a phrase of habit that it does not say, and a phrase that is
--- refused by 6 under masculine, singular, nominative
+-- a line of the table: a call's phrase, its refusal, that it is not refused, a phrase that it does not say ("Errors of habit"), and a phrase that
+-- is refused by 6 under masculine, singular, nominative
 pub data Sample : Type 0 where
   says : Call → String → Sample
   refuses : Call → ℕ → Sample
@@ -46,6 +46,7 @@ pub data Sample : Type 0 where
   never : Call → String → Sample
   unread : String → Sample
 
+-- what a line says
 abbrev pub Holds : Sample → Type 0
 Holds (says c p) = replyTo c ≡ bytes (utf8 p)
 Holds (refuses c n) = replyTo c ≡ refused n 0
@@ -58,7 +59,7 @@ abbrev pub All : List Sample → Type 0
 All [] = Unit
 All (s ∷ ss) = Holds s × All ss
 
--- the table
+-- the table: phrases, refusals, and "Errors of habit"
 abbrev pub samples : List Sample
 samples =
     says (card 1 0 0 "42") "сорок дві" ∷

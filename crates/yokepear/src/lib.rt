@@ -1,4 +1,5 @@
-// The calls for a host in C. Each hands on to the crate of its kind; the contracts say all that a host may rely on, and ask nothing of it.
+// The calls for a host in C. Each hands on to the crate of its kind. The contracts say all that a host may rely on, and have no `requires`: of the
+// host it is asked only, as of any caller in Rattle, that out does not overlap what is read (include/yokepear.h).
 use base::Answer;
 ghost use Rattle.base.specs.Answer.{replied, Answers, ReadsUnless};
 ghost use Rattle.calls_uk.specs.Cardinals.{refusedCardinal, refusedSetting, cardinal, Means};
