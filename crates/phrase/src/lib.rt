@@ -13,7 +13,7 @@ ghost use Rattle.phrase.specs.Phrase.{following, phrase as phraseOf};
 ghost use Rattle.phrase.specs.Plan.{pieceOf, pieces, says, Added};
 ghost use Rattle.phrase.specs.Stands.{stands as standsAs};
 
-// Adds a piece to a plan of which `at` are written; how many are written then.
+// Adds a piece to a plan of which `at` are written; returns how many are written then.
 pub fn push(plan: &mut [u32], at: usize, separator: u8, id: u16) -> usize
     requires { ⌜ at < length (now plan) ⌝ }
     ensures { λ r. ⌜ Added 1 (now (plan .entry)) at (now (plan .exit)) r ((separator, text id) ∷ []) ⌝ }
