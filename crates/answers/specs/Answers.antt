@@ -12,7 +12,7 @@ use Rattle.uk.specs.Settings.{inRange}
 use Rattle.money.specs.Currencies.{currencyAt}
 use Rattle.money.specs.Codes.{placeOf}
 use Rattle.calls_uk.specs.Cardinals.{refusedCardinal, cardinal}
-use Rattle.calls_ordinal.specs.Calls.{unlessSettings, ordinalText, digitOrdinalText, ordinalPhrase, yearPhrase}
+use Rattle.calls_ordinal.specs.Calls.{unlessSettings, refusedOrdinal, refusedDigitOrdinal, ordinalPhrase, yearPhrase}
 use Rattle.ordinal.specs.DigitOrdinal.{digitOrdinal}
 use Rattle.calls_money.specs.MoneyCalls.{refusedAmount, moneyPhrase}
 use Rattle.calls_fr.specs.Calls.{french, firstRefusal, cardinalRefusal, ordinalRefusal, cardinalOf, ordinalOf, inRange as inFrenchRange}
@@ -38,8 +38,8 @@ amount g n c code s =
 -- a Ukrainian form of a kind, with settings in their ranges, of which s is left: a text and the closing bracket; "money (code before text)"
 unfoldable pub ukrainian : Kind → ℕ → ℕ → ℕ → List ℕ → List ℕ
 ukrainian Card g n c s = cond (closed s) (told (refusedCardinal g n c (inner s)) (cardinal g c (inner s))) badLine
-ukrainian Ord g n c s = cond (closed s) (told (unlessSettings g n c (ordinalText (inner s))) (ordinalPhrase g n c (inner s))) badLine
-ukrainian Num g n c s = cond (closed s) (told (unlessSettings g n c (digitOrdinalText (inner s))) (digitOrdinal g n c (inner s))) badLine
+ukrainian Ord g n c s = cond (closed s) (told (unlessSettings g n c (refusedOrdinal (inner s))) (ordinalPhrase g n c (inner s))) badLine
+ukrainian Num g n c s = cond (closed s) (told (unlessSettings g n c (refusedDigitOrdinal (inner s))) (digitOrdinal g n c (inner s))) badLine
 ukrainian Year g n c s = cond (closed s) (told (refusalOf (judgeYear (inner s))) (yearPhrase n c (yearOf (inner s)))) badLine
 ukrainian Money g n c s = amount g n c (first s) (rest s)
 ukrainian Other g n c s = badLine

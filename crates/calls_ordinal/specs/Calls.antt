@@ -18,12 +18,12 @@ abbrev pub unlessSettings : ℕ → ℕ → ℕ → ℕ → ℕ
 unlessSettings gender number case n = cond (inRange gender number case) n 1
 
 -- an ordinal's text: 3 malformed, 4 negative, 5 above 66 digits; 0 for an admitted one
-abbrev pub ordinalText : List ℕ → ℕ
-ordinalText text = numberOf (judgeDigits false 66 text)
+abbrev pub refusedOrdinal : List ℕ → ℕ
+refusedOrdinal text = numberOf (judgeDigits false 66 text)
 
 -- a digit ordinal's text: 3 malformed, 4 negative, 5 above 2 ^ 128 - 1; 0 for an admitted one
-abbrev pub digitOrdinalText : List ℕ → ℕ
-digitOrdinalText text = numberOf (judgeDigitOrdinal text)
+abbrev pub refusedDigitOrdinal : List ℕ → ℕ
+refusedDigitOrdinal text = numberOf (judgeDigitOrdinal text)
 
 -- the ordinal of an admitted number text
 unfoldable pub ordinalPhrase : ℕ → ℕ → ℕ → List ℕ → List ℕ

@@ -11,7 +11,7 @@ ghost use Rattle.base.specs.Answer.{fitted, replied, Answers};
 ghost use Rattle.figures.specs.Text.{digits as digitsOf};
 ghost use Rattle.ordinal.specs.DigitOrdinal.{digitOrdinal};
 ghost use Rattle.ordinal.specs.Year.{early};
-ghost use Rattle.calls_ordinal.specs.Calls.{unlessSettings, ordinalText, digitOrdinalText, ordinalPhrase, yearPhrase};
+ghost use Rattle.calls_ordinal.specs.Calls.{unlessSettings, refusedOrdinal, refusedDigitOrdinal, ordinalPhrase, yearPhrase};
 
 // Whether a year is 0 or below.
 fn is_early(year: i64) -> bool
@@ -22,7 +22,7 @@ fn is_early(year: i64) -> bool
 
 // The refusal of an ordinal's settings and text, 0 for none.
 fn refuse_ordinal(gender: u32, number: u32, case: u32, text: &[u8]) -> u32
-    ensures { λ r. ⌜ r ≡ unlessSettings gender number case (ordinalText (now (text .entry))) ⌝ }
+    ensures { λ r. ⌜ r ≡ unlessSettings gender number case (refusedOrdinal (now (text .entry))) ⌝ }
 {
     if uk::in_range(gender, number, case) {
         figures::refusals::number_of(figures::refusals::judge(text, false, 66))
@@ -33,7 +33,7 @@ fn refuse_ordinal(gender: u32, number: u32, case: u32, text: &[u8]) -> u32
 
 // The refusal of a digit ordinal's settings and text, 0 for none.
 fn refuse_digit_ordinal(gender: u32, number: u32, case: u32, text: &[u8]) -> u32
-    ensures { λ r. ⌜ r ≡ unlessSettings gender number case (digitOrdinalText (now (text .entry))) ⌝ }
+    ensures { λ r. ⌜ r ≡ unlessSettings gender number case (refusedDigitOrdinal (now (text .entry))) ⌝ }
 {
     if uk::in_range(gender, number, case) {
         figures::refusals::number_of(figures::refusals::judge_digit_ordinal(text))
@@ -69,7 +69,7 @@ fn say_year(settings: Settings, year: i64, out: &mut [u8]) -> Answer
 
 // The ordinal of a number text.
 pub fn to_ordinal(gender: u32, number: u32, case: u32, text: &[u8], out: &mut [u8]) -> Answer
-    ensures { λ r. ⌜ Answers r (now (out .entry)) (now (out .exit)) (replied (unlessSettings gender number case (ordinalText (now (text .entry)))) (ordinalPhrase gender number case (now (text .entry))) (now (out .entry))) ⌝ }
+    ensures { λ r. ⌜ Answers r (now (out .entry)) (now (out .exit)) (replied (unlessSettings gender number case (refusedOrdinal (now (text .entry)))) (ordinalPhrase gender number case (now (text .entry))) (now (out .entry))) ⌝ }
     ensures { λ r. ⌜ r .length ≤ 12320 ⌝ }
 {
     let n = refuse_ordinal(gender, number, case, text);
@@ -85,7 +85,7 @@ pub fn to_ordinal(gender: u32, number: u32, case: u32, text: &[u8], out: &mut [u
 
 // The digit ordinal of a number text.
 pub fn to_ordinal_num(gender: u32, number: u32, case: u32, text: &[u8], out: &mut [u8]) -> Answer
-    ensures { λ r. ⌜ Answers r (now (out .entry)) (now (out .exit)) (replied (unlessSettings gender number case (digitOrdinalText (now (text .entry)))) (digitOrdinal gender number case (now (text .entry))) (now (out .entry))) ⌝ }
+    ensures { λ r. ⌜ Answers r (now (out .entry)) (now (out .exit)) (replied (unlessSettings gender number case (refusedDigitOrdinal (now (text .entry)))) (digitOrdinal gender number case (now (text .entry))) (now (out .entry))) ⌝ }
     ensures { λ r. ⌜ r .length ≤ 12320 ⌝ }
 {
     let n = refuse_digit_ordinal(gender, number, case, text);

@@ -10,7 +10,7 @@ use Rattle.base.specs.Answer.{Reply, refused, bytes, numberOf}
 use Rattle.money.specs.Currencies.{currencyAt}
 use Rattle.money.specs.Codes.{placeOf}
 use Rattle.calls_uk.specs.Cardinals.{refusedCardinal, cardinal, Means}
-use Rattle.calls_ordinal.specs.Calls.{unlessSettings, ordinalText, ordinalPhrase, yearPhrase}
+use Rattle.calls_ordinal.specs.Calls.{unlessSettings, refusedOrdinal, ordinalPhrase, yearPhrase}
 use Rattle.calls_money.specs.MoneyCalls.{refusedAmount, moneyPhrase}
 use Rattle.calls_fr.specs.Calls.{french, firstRefusal, cardinalRefusal, ordinalRefusal, cardinalOf, ordinalOf}
 
@@ -31,7 +31,7 @@ reply (suc n) b = refused (suc n) 0
 -- the reply to a call, by the definitions that its contract cites
 abbrev pub replyTo : Call → Reply
 replyTo (card g n c t) = reply (refusedCardinal g n c (utf8 t)) (cardinal g c (utf8 t))
-replyTo (ord g n c t) = reply (unlessSettings g n c (ordinalText (utf8 t))) (ordinalPhrase g n c (utf8 t))
+replyTo (ord g n c t) = reply (unlessSettings g n c (refusedOrdinal (utf8 t))) (ordinalPhrase g n c (utf8 t))
 replyTo (year g n c y) = reply (unlessSettings g n c 0) (yearPhrase n c y)
 replyTo (money g n c k t) = reply (refusedAmount g n c (utf8 k) (utf8 t)) (moneyPhrase (currencyAt (placeOf (utf8 k))) c (utf8 t))
 replyTo (frenchCard f o r t) = reply (firstRefusal (french f o r) (cardinalRefusal (utf8 t))) (cardinalOf (french f o r) (utf8 t))

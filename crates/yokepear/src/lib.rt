@@ -8,7 +8,7 @@ ghost use Rattle.money.specs.Currencies.{currencyAt};
 ghost use Rattle.money.specs.Codes.{placeOf};
 ghost use Rattle.calls_money.specs.MoneyCalls.{refusedCode, refusedAmount, moneyPhrase, Means as MoneyMeans};
 ghost use Rattle.ordinal.specs.DigitOrdinal.{digitOrdinal};
-ghost use Rattle.calls_ordinal.specs.Calls.{unlessSettings, ordinalText, digitOrdinalText, ordinalPhrase, yearPhrase};
+ghost use Rattle.calls_ordinal.specs.Calls.{unlessSettings, refusedOrdinal, refusedDigitOrdinal, ordinalPhrase, yearPhrase};
 
 // The cardinal of a number text.
 #[no_mangle]
@@ -47,7 +47,7 @@ pub extern "C" fn yokepear_uk_to_ordinal(
     text: &[u8],
     out: &mut [u8],
 ) -> Answer
-    ensures { λ r. ⌜ Answers r (now (out .entry)) (now (out .exit)) (replied (unlessSettings gender number case (ordinalText (now (text .entry)))) (ordinalPhrase gender number case (now (text .entry))) (now (out .entry))) ⌝ }
+    ensures { λ r. ⌜ Answers r (now (out .entry)) (now (out .exit)) (replied (unlessSettings gender number case (refusedOrdinal (now (text .entry)))) (ordinalPhrase gender number case (now (text .entry))) (now (out .entry))) ⌝ }
 {
     calls_ordinal::to_ordinal(gender, number, case, text, out)
 }
@@ -61,7 +61,7 @@ pub extern "C" fn yokepear_uk_to_ordinal_num(
     text: &[u8],
     out: &mut [u8],
 ) -> Answer
-    ensures { λ r. ⌜ Answers r (now (out .entry)) (now (out .exit)) (replied (unlessSettings gender number case (digitOrdinalText (now (text .entry)))) (digitOrdinal gender number case (now (text .entry))) (now (out .entry))) ⌝ }
+    ensures { λ r. ⌜ Answers r (now (out .entry)) (now (out .exit)) (replied (unlessSettings gender number case (refusedDigitOrdinal (now (text .entry)))) (digitOrdinal gender number case (now (text .entry))) (now (out .entry))) ⌝ }
 {
     calls_ordinal::to_ordinal_num(gender, number, case, text, out)
 }
