@@ -8,11 +8,11 @@ use lib.ListN.{length}
 use Rattle.base.specs.Utf8.{utf8}
 use Rattle.figures.specs.Refusals.{judgeYear, numberOf as refusalOf}
 use Rattle.figures.specs.Year.{yearOf}
-use Rattle.uk.specs.Settings.{inRange}
+use Rattle.uk.specs.Settings.{inRange, unlessSettings}
 use Rattle.money.specs.Currencies.{currencyAt}
 use Rattle.money.specs.Codes.{placeOf}
 use Rattle.calls_uk.specs.Cardinals.{refusedCardinal, cardinal}
-use Rattle.calls_ordinal.specs.Calls.{unlessSettings, refusedOrdinal, refusedDigitOrdinal, ordinalPhrase, yearPhrase}
+use Rattle.calls_ordinal.specs.Calls.{refusedOrdinal, refusedDigitOrdinal, ordinalPhrase, yearPhrase}
 use Rattle.ordinal.specs.DigitOrdinal.{digitOrdinal}
 use Rattle.calls_money.specs.MoneyCalls.{refusedAmount, moneyPhrase}
 use Rattle.calls_fr.specs.Calls.{french, firstRefusal, cardinalRefusal, ordinalRefusal, cardinalOf, ordinalOf, inRange as inFrenchRange}

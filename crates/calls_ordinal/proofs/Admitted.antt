@@ -22,13 +22,13 @@ use Rattle.figures.proofs.Laws.Plain.{plain-digits, plain-least, plain-some}
 use Rattle.figures.proofs.Laws.Sign.{unsigned-plain, formed-unsigned}
 use Rattle.figures.proofs.Laws.Groups.{groups-length, groups-at}
 use Rattle.figures.proofs.Laws.Refusals.{number-zero, admitted}
-use Rattle.uk.specs.Settings.{inRange}
+use Rattle.uk.specs.Settings.{inRange, unlessSettings}
 use Rattle.uk.proofs.Ranges.{ranges}
 use Rattle.base.specs.Join.{joined}
 use Rattle.ordinal.specs.Ordinal.{ordinalWords}
 use Rattle.ordinal.specs.Year.{early, yearWords}
 use Rattle.spell_ordinal.specs.Groups.{Groups}
-use Rattle.calls_ordinal.specs.Calls.{unlessSettings, refusedOrdinal, refusedDigitOrdinal, ordinalPhrase, yearPhrase}
+use Rattle.calls_ordinal.specs.Calls.{refusedOrdinal, refusedDigitOrdinal, ordinalPhrase, yearPhrase}
 
 -- neither the settings nor the text are refused
 pub unrefused : (g n c m : ℕ) → unlessSettings g n c m ≡ 0 → ((g < 3) × (n < 2) × (c < 6)) × (m ≡ 0)

@@ -2,20 +2,15 @@
 -- ordinals, years, codes").
 -- Assumes nothing.
 use Prim.Native.Nat.{ℕ}
-use mathlib.Core.Bool.{cond, false}
+use mathlib.Core.Bool.{false}
 use mathlib.Core.List.{List}
 use lib.IntN.{ℤ, natAbs}
 use Rattle.base.specs.Join.{joined}
 use Rattle.figures.specs.Text.{value}
 use Rattle.figures.specs.Groups.{groupsOf}
 use Rattle.figures.specs.Refusals.{numberOf, judgeDigits, judgeDigitOrdinal}
-use Rattle.uk.specs.Settings.{inRange}
 use Rattle.ordinal.specs.Ordinal.{ordinalWords}
 use Rattle.ordinal.specs.Year.{early, yearWords}
-
--- a setting outside its range is refused by 1; otherwise by the number n, 0 for none
-abbrev pub unlessSettings : ℕ → ℕ → ℕ → ℕ → ℕ
-unlessSettings gender number case n = cond (inRange gender number case) n 1
 
 -- an ordinal's text: 3 malformed, 4 negative, 5 above 66 digits; 0 for an admitted one
 abbrev pub refusedOrdinal : List ℕ → ℕ

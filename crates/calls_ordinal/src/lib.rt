@@ -9,9 +9,10 @@ ghost use mathlib.Core.Bool.{true};
 ghost use Prim.Native.Nat.{_≤_, _<_};
 ghost use Rattle.base.specs.Answer.{fitted, replied, Answers};
 ghost use Rattle.figures.specs.Text.{digits as digitsOf};
+ghost use Rattle.uk.specs.Settings.{unlessSettings};
 ghost use Rattle.ordinal.specs.DigitOrdinal.{digitOrdinal};
 ghost use Rattle.ordinal.specs.Year.{early};
-ghost use Rattle.calls_ordinal.specs.Calls.{unlessSettings, refusedOrdinal, refusedDigitOrdinal, ordinalPhrase, yearPhrase};
+ghost use Rattle.calls_ordinal.specs.Calls.{refusedOrdinal, refusedDigitOrdinal, ordinalPhrase, yearPhrase};
 
 // Whether a year is 0 or below.
 fn is_early(year: i64) -> bool

@@ -3,14 +3,14 @@
 -- Assumes nothing.
 use Prim.Native.Nat.{ℕ}
 use mathlib.Core.Path.{_≡_}
-use mathlib.Core.Bool.{Bool, true, cond}
+use mathlib.Core.Bool.{Bool, true}
 use mathlib.Core.List.{List}
 use lib.Dec.{eqb}
 use Rattle.base.specs.Join.{joined}
 use Rattle.figures.specs.Text.{value, negative, unsigned, signedText}
 use Rattle.figures.specs.Groups.{groupsOf}
 use Rattle.figures.specs.Refusals.{numberOf, judgeDigits}
-use Rattle.uk.specs.Settings.{inRange}
+use Rattle.uk.specs.Settings.{unlessSettings}
 use Rattle.uk.specs.Ukrainian.{ukrainian}
 use Rattle.uk.specs.Cardinal.{cardinalWords}
 use Rattle.uk.specs.Grammar.{Says}
@@ -25,11 +25,11 @@ Admitted t = refusedText t ≡ 0
 
 -- the refusal of a reading call before the phrase's, or 0 (01, "Where each refusal arises")
 abbrev pub refusedSetting : ℕ → ℕ → ℕ → ℕ
-refusedSetting gender number case = cond (inRange gender number case) 0 1
+refusedSetting gender number case = unlessSettings gender number case 0
 
 -- the first refusal of a spelling call before the buffer's, or 0: the text comes after the settings
 abbrev pub refusedCardinal : ℕ → ℕ → ℕ → List ℕ → ℕ
-refusedCardinal gender number case t = cond (inRange gender number case) (refusedText t) 1
+refusedCardinal gender number case t = unlessSettings gender number case (refusedText t)
 
 -- the phrase of an admitted number text
 unfoldable pub cardinal : ℕ → ℕ → List ℕ → List ℕ

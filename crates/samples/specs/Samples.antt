@@ -9,8 +9,9 @@ use Rattle.base.specs.Utf8.{utf8}
 use Rattle.base.specs.Answer.{Reply, refused, bytes, numberOf}
 use Rattle.money.specs.Currencies.{currencyAt}
 use Rattle.money.specs.Codes.{placeOf}
+use Rattle.uk.specs.Settings.{unlessSettings}
 use Rattle.calls_uk.specs.Cardinals.{refusedCardinal, cardinal, Means}
-use Rattle.calls_ordinal.specs.Calls.{unlessSettings, refusedOrdinal, ordinalPhrase, yearPhrase}
+use Rattle.calls_ordinal.specs.Calls.{refusedOrdinal, ordinalPhrase, yearPhrase}
 use Rattle.calls_money.specs.MoneyCalls.{refusedAmount, moneyPhrase}
 use Rattle.calls_fr.specs.Calls.{french, firstRefusal, cardinalRefusal, ordinalRefusal, cardinalOf, ordinalOf}
 

@@ -2,13 +2,14 @@
 // host it is asked only, as of any caller in Rattle, that out does not overlap what is read (include/yokepear.h).
 use base::Answer;
 ghost use Rattle.base.specs.Answer.{replied, Answers, ReadsUnless};
+ghost use Rattle.uk.specs.Settings.{unlessSettings};
 ghost use Rattle.calls_uk.specs.Cardinals.{refusedCardinal, refusedSetting, cardinal, Means};
 ghost use Rattle.calls_fr.specs.Calls.{french, settingsRefusal, cardinalRefusal, ordinalRefusal, firstRefusal, cardinalOf, ordinalOf, CardinalMeans, OrdinalMeans};
 ghost use Rattle.money.specs.Currencies.{currencyAt};
 ghost use Rattle.money.specs.Codes.{placeOf};
 ghost use Rattle.calls_money.specs.MoneyCalls.{refusedCode, refusedAmount, moneyPhrase, Means as MoneyMeans};
 ghost use Rattle.ordinal.specs.DigitOrdinal.{digitOrdinal};
-ghost use Rattle.calls_ordinal.specs.Calls.{unlessSettings, refusedOrdinal, refusedDigitOrdinal, ordinalPhrase, yearPhrase};
+ghost use Rattle.calls_ordinal.specs.Calls.{refusedOrdinal, refusedDigitOrdinal, ordinalPhrase, yearPhrase};
 
 // The cardinal of a number text.
 #[no_mangle]

@@ -4,7 +4,8 @@ use mathlib.Core.Path.{_≡_, refl, sym, _∙_}
 use native.Mathlib.Omega.{arith}
 use borrow.Author.Needs.{needs}
 use denote.Ref.{now}
-use Rattle.calls_ordinal.specs.Calls.{unlessSettings, refusedOrdinal}
+use Rattle.uk.specs.Settings.{unlessSettings}
+use Rattle.calls_ordinal.specs.Calls.{refusedOrdinal}
 use Rattle.calls_ordinal.proofs.Replies.{said, refusal}
 use Rattle.calls_ordinal.proofs.Admitted.{unrefused, ordinal-digits}
 use Rattle.calls_ordinal.proofs.to_ordinal.Statement.{statement}

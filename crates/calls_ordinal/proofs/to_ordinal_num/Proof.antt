@@ -4,7 +4,8 @@ use mathlib.Core.Path.{_≡_, refl, sym, _∙_}
 use native.Mathlib.Omega.{arith}
 use borrow.Author.Needs.{needs}
 use denote.Ref.{now}
-use Rattle.calls_ordinal.specs.Calls.{unlessSettings, refusedDigitOrdinal}
+use Rattle.uk.specs.Settings.{unlessSettings}
+use Rattle.calls_ordinal.specs.Calls.{refusedDigitOrdinal}
 use Rattle.calls_ordinal.proofs.Replies.{said, refusal}
 use Rattle.calls_ordinal.proofs.Admitted.{unrefused, digit-ordinal-digits}
 use Rattle.calls_ordinal.proofs.to_ordinal_num.Statement.{statement}

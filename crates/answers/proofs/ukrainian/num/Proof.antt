@@ -5,9 +5,9 @@ use native.Mathlib.Omega.{arith}
 use borrow.Author.Needs.{needs}
 use lib.ListN.{length-take}
 use Rattle.figures.specs.Refusals.{judgeDigitOrdinal}
-use Rattle.uk.specs.Settings.{inRange}
+use Rattle.uk.specs.Settings.{inRange, unlessSettings}
 use Rattle.ordinal.specs.DigitOrdinal.{digitOrdinal}
-use Rattle.calls_ordinal.specs.Calls.{unlessSettings, refusedDigitOrdinal}
+use Rattle.calls_ordinal.specs.Calls.{refusedDigitOrdinal}
 use Rattle.forms.specs.Line.{inner, closed}
 use Rattle.answers.specs.Answers.{ukrainian}
 use Rattle.answers.proofs.Laws.{small-number, spoken, unspoken, judged-small, cond-small, closed-some}

@@ -6,8 +6,8 @@ use borrow.Author.Needs.{needs}
 use lib.ListN.{length-take}
 use mathlib.Core.Bool.{false}
 use Rattle.figures.specs.Refusals.{judgeDigits}
-use Rattle.uk.specs.Settings.{inRange}
-use Rattle.calls_ordinal.specs.Calls.{unlessSettings, refusedOrdinal, ordinalPhrase}
+use Rattle.uk.specs.Settings.{inRange, unlessSettings}
+use Rattle.calls_ordinal.specs.Calls.{refusedOrdinal, ordinalPhrase}
 use Rattle.forms.specs.Line.{inner, closed}
 use Rattle.answers.specs.Answers.{ukrainian}
 use Rattle.answers.proofs.Laws.{small-number, spoken, unspoken, judged-small, cond-small, closed-some}
