@@ -9,8 +9,7 @@ use Rattle.base.specs.Utf8.{utf8}
 use Rattle.figures.specs.Refusals.{judgeYear, numberOf as refusalOf}
 use Rattle.figures.specs.Year.{yearOf}
 use Rattle.uk.specs.Settings.{inRange, unlessSettings}
-use Rattle.money.specs.Currencies.{currencyAt}
-use Rattle.money.specs.Codes.{placeOf}
+use Rattle.money.specs.Codes.{currencyOf}
 use Rattle.calls_uk.specs.Cardinals.{refusedCardinal, cardinal}
 use Rattle.calls_ordinal.specs.Calls.{refusedOrdinal, refusedDigitOrdinal, ordinalPhrase, yearPhrase}
 use Rattle.ordinal.specs.DigitOrdinal.{digitOrdinal}
@@ -33,7 +32,7 @@ badLine = utf8 "bad line" ++ (10 ∷ [])
 -- an amount with this code, of which s is left: a text and the closing bracket
 unfoldable pub amount : ℕ → ℕ → ℕ → List ℕ → List ℕ → List ℕ
 amount g n c code s =
-    cond (run code && closed s) (told (refusedAmount g n c code (inner s)) (moneyPhrase (currencyAt (placeOf code)) c (inner s))) badLine
+    cond (run code && closed s) (told (refusedAmount g n c code (inner s)) (moneyPhrase (currencyOf code) c (inner s))) badLine
 
 -- a Ukrainian form of a kind, with settings in their ranges, of which s is left: a text and the closing bracket; "money (code before text)"
 unfoldable pub ukrainian : Kind → ℕ → ℕ → ℕ → List ℕ → List ℕ

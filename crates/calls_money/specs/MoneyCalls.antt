@@ -4,7 +4,7 @@ use Prim.Native.Nat.{ℕ}
 use mathlib.Core.Path.{_≡_}
 use mathlib.Core.Bool.{cond}
 use mathlib.Core.List.{List}
-use lib.Dec.{ltb, eqb}
+use lib.Dec.{eqb}
 use Rattle.base.specs.Join.{joined}
 use Rattle.figures.specs.Text.{value, unsigned}
 use Rattle.figures.specs.Groups.{groupsOf}
@@ -12,7 +12,7 @@ use Rattle.figures.specs.Money.{wholeText, hundredthsText, moneyText}
 use Rattle.figures.specs.Refusals.{numberOf, judgeMoney}
 use Rattle.uk.specs.Settings.{unlessSettings}
 use Rattle.money.specs.Currencies.{Currency}
-use Rattle.money.specs.Codes.{placeOf}
+use Rattle.money.specs.Codes.{isCode}
 use Rattle.money.specs.Money.{moneyWords}
 use Rattle.money.specs.MoneyGrammar.{SaysMoney}
 
@@ -26,11 +26,11 @@ Admitted t = refusedText t ≡ 0
 
 -- the first refusal of a reading call before the phrase's, or 0: settings, then what is not one of the 44 codes (01, "Where each refusal arises")
 abbrev pub refusedCode : ℕ → ℕ → ℕ → List ℕ → ℕ
-refusedCode gender number case code = unlessSettings gender number case (cond (ltb (placeOf code) 44) 0 2)
+refusedCode gender number case code = unlessSettings gender number case (cond (isCode code) 0 2)
 
 -- the first refusal of a spelling call before the buffer's, or 0: the text comes after the code
 abbrev pub refusedAmount : ℕ → ℕ → ℕ → List ℕ → List ℕ → ℕ
-refusedAmount gender number case code t = unlessSettings gender number case (cond (ltb (placeOf code) 44) (refusedText t) 2)
+refusedAmount gender number case code t = unlessSettings gender number case (cond (isCode code) (refusedText t) 2)
 
 -- the phrase of an admitted money text
 unfoldable pub moneyPhrase : Currency → ℕ → List ℕ → List ℕ

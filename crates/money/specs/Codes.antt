@@ -3,9 +3,9 @@
 use Prim.Native.Nat.{ℕ, suc}
 use mathlib.Core.Bool.{Bool, true, false, cond, _&&_}
 use mathlib.Core.List.{List, [], _∷_}
-use lib.Dec.{eqb}
+use lib.Dec.{eqb, ltb}
 use Rattle.base.specs.Utf8.{utf8}
-use Rattle.money.specs.Currencies.{Currency, currencies}
+use Rattle.money.specs.Currencies.{Currency, currencies, currencyAt}
 
 -- two texts are the same
 abbrev pub sameText : List ℕ → List ℕ → Bool
@@ -22,3 +22,11 @@ placeIn (c ∷ cs) code = cond (sameText (utf8 (c .code)) code) 0 (suc (placeIn 
 -- the same among all 44
 abbrev pub placeOf : List ℕ → ℕ
 placeOf code = placeIn currencies code
+
+-- a text is one of the 44 codes
+abbrev pub isCode : List ℕ → Bool
+isCode code = ltb (placeOf code) 44
+
+-- the currency with this code
+abbrev pub currencyOf : List ℕ → Currency
+currencyOf code = currencyAt (placeOf code)

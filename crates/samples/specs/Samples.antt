@@ -7,8 +7,7 @@ use mathlib.Core.List.{List, [], _∷_}
 use lib.IntN.{ℤ, pos, negℤ}
 use Rattle.base.specs.Utf8.{utf8}
 use Rattle.base.specs.Answer.{Reply, refused, bytes, numberOf}
-use Rattle.money.specs.Currencies.{currencyAt}
-use Rattle.money.specs.Codes.{placeOf}
+use Rattle.money.specs.Codes.{currencyOf}
 use Rattle.uk.specs.Settings.{unlessSettings}
 use Rattle.calls_uk.specs.Cardinals.{refusedCardinal, cardinal, Means}
 use Rattle.calls_ordinal.specs.Calls.{refusedOrdinal, ordinalPhrase, yearPhrase}
@@ -34,7 +33,7 @@ abbrev pub replyTo : Call → Reply
 replyTo (card g n c t) = reply (refusedCardinal g n c (utf8 t)) (cardinal g c (utf8 t))
 replyTo (ord g n c t) = reply (unlessSettings g n c (refusedOrdinal (utf8 t))) (ordinalPhrase g n c (utf8 t))
 replyTo (year g n c y) = reply (unlessSettings g n c 0) (yearPhrase n c y)
-replyTo (money g n c k t) = reply (refusedAmount g n c (utf8 k) (utf8 t)) (moneyPhrase (currencyAt (placeOf (utf8 k))) c (utf8 t))
+replyTo (money g n c k t) = reply (refusedAmount g n c (utf8 k) (utf8 t)) (moneyPhrase (currencyOf (utf8 k)) c (utf8 t))
 replyTo (frenchCard f o r t) = reply (firstRefusal (french f o r) (cardinalRefusal (utf8 t))) (cardinalOf (french f o r) (utf8 t))
 replyTo (frenchOrd f o r t) = reply (firstRefusal (french f o r) (ordinalRefusal (utf8 t))) (ordinalOf (french f o r) (utf8 t))
 
