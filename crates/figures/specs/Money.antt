@@ -30,3 +30,7 @@ moneyFormed xs = cond (pointed xs) (plain (unsigned (wholeText xs)) && hundredth
 -- the money text of w and h hundredths, h below 100 ("Phrase grammar and reader": "whole part and hundredths as a money text")
 abbrev pub moneyText : ℕ → ℕ → List ℕ
 moneyText w h = text w ++ cond (eqb h 0) [] (46 ∷ fixed 2 h)
+
+-- the largest whole part: "at most 18,446,744,073,709,551,615"
+abbrev pub moneyLimit : ℕ
+moneyLimit = 18446744073709551615

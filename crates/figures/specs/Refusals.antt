@@ -6,7 +6,7 @@ use mathlib.Core.List.{List}
 use lib.Dec.{ltb}
 use lib.ListN.{length}
 use Rattle.figures.specs.Text.{value, negative, unsigned, wellFormed}
-use Rattle.figures.specs.Money.{wholeText, moneyFormed}
+use Rattle.figures.specs.Money.{wholeText, moneyFormed, moneyLimit}
 use Rattle.figures.specs.Year.{yearLimit}
 use Rattle.figures.specs.declared.Judged.{Judged}
 use Rattle.figures.specs.declared.Judged.the-variants.{Fine, Malformed, Negative, Large}
@@ -30,9 +30,9 @@ judgeDigits signed most xs = judged (not (wellFormed xs)) (negative xs && not si
 abbrev pub judgeDigitOrdinal : List ℕ → Judged
 judgeDigitOrdinal xs = judged (not (wellFormed xs)) (negative xs) (ltb 340282366920938463463374607431768211455 (value (unsigned xs)))
 
--- an amount: "whole part at most 18,446,744,073,709,551,615"
+-- an amount, by its whole part
 abbrev pub judgeMoney : List ℕ → Judged
-judgeMoney xs = judged (not (moneyFormed xs)) (negative xs) (ltb 18446744073709551615 (value (unsigned (wholeText xs))))
+judgeMoney xs = judged (not (moneyFormed xs)) (negative xs) (ltb moneyLimit (value (unsigned (wholeText xs))))
 
 -- a year as text ("The program phrases": "A malformed year is refused 3, one beyond 64 signed bits 5")
 abbrev pub judgeYear : List ℕ → Judged
