@@ -16,7 +16,7 @@ use Rattle.base.specs.Utf8.{utf8}
 use Rattle.base.specs.Answer.{Reply, refused, bytes, numberOf, lengthOf, bufferOf, fitted, replied, Answers}
 use Rattle.base.specs.declared.Answer.{Answer}
 use Rattle.figures.specs.Text.{value, negative, unsigned, wellFormed}
-use Rattle.figures.specs.Refusals.{judged, judgeYear, numberOf as refusalOf}
+use Rattle.figures.specs.Refusals.{judged, judgeYear, refusalOf}
 use Rattle.figures.specs.Year.{yearOf, yearLimit}
 use Rattle.figures.specs.declared.Judged.{Judged}
 use Rattle.figures.specs.declared.Judged.the-variants.{Fine, Malformed, Negative, Large}

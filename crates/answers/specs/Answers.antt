@@ -6,7 +6,7 @@ use mathlib.Core.List.{List, [], _∷_, _++_}
 use lib.Dec.{eqb, leb}
 use lib.ListN.{length}
 use Rattle.base.specs.Utf8.{utf8}
-use Rattle.figures.specs.Refusals.{judgeYear, numberOf as refusalOf}
+use Rattle.figures.specs.Refusals.{judgeYear, refusalOf}
 use Rattle.figures.specs.Year.{yearOf}
 use Rattle.uk.specs.Settings.{inRange, unlessSettings}
 use Rattle.money.specs.Codes.{currencyOf}

@@ -7,7 +7,7 @@ use mathlib.Core.List.{List}
 use lib.Dec.{eqb, ltb}
 use Rattle.figures.specs.Text.{value, text, negative, unsigned, signedText}
 use Rattle.figures.specs.Groups.{groupsOf}
-use Rattle.figures.specs.Refusals.{judgeDigits, numberOf}
+use Rattle.figures.specs.Refusals.{judgeDigits, refusalOf}
 use Rattle.fr.specs.Cardinal.{cardinalPhrase}
 use Rattle.fr.specs.Ordinal.{ordinalPhrase}
 use Rattle.fr.specs.Grammar.{Says, SaysNth}
@@ -26,10 +26,10 @@ settingsRefusal F = cond (inRange F) 0 1
 
 -- the refusal of a number text, or 0: at most 102 digits, and an ordinal is not negative
 abbrev pub cardinalRefusal : List ℕ → ℕ
-cardinalRefusal xs = numberOf (judgeDigits true 102 xs)
+cardinalRefusal xs = refusalOf (judgeDigits true 102 xs)
 
 abbrev pub ordinalRefusal : List ℕ → ℕ
-ordinalRefusal xs = numberOf (judgeDigits false 102 xs)
+ordinalRefusal xs = refusalOf (judgeDigits false 102 xs)
 
 -- none of the conditions 3 to 5 holds of the text
 abbrev pub CardinalAdmitted : List ℕ → Type 0

@@ -13,7 +13,7 @@ use lib.Seq.{take-at, drop-at, getD-append-seam}
 use borrow.Author.Tests.{ne-eqb, eq-eqb, le-leb, leb-true, leb-false}
 use Rattle.figures.specs.Text.{digit, digits, plain, value, negative, unsigned, wellFormed, fixed, text, signedText}
 use Rattle.figures.specs.Money.{pointed, wholeText, hundredthsText, hundredths, moneyFormed, moneyText, moneyLimit}
-use Rattle.figures.specs.Refusals.{numberOf, judged, judgeMoney}
+use Rattle.figures.specs.Refusals.{refusalOf, judged, judgeMoney}
 use Rattle.figures.specs.declared.Judged.the-variants.{Fine}
 use Rattle.figures.proofs.Laws.Digits.{value-lt, digits-at, digit-low}
 use Rattle.figures.proofs.Laws.Plain.{plain-digits, plain-least}
@@ -36,7 +36,7 @@ parts t e =
     record { formed = a .formed; sign = a .sign; within = a .within }
 
 pub parts-admitted : (t : List ℕ) → Parts t → Admitted t
-parts-admitted t p = ap numberOf (none-refused {f = moneyFormed t} {r = negative t} {size = value (unsigned (wholeText t))} {limit = moneyLimit} (record { formed = p .formed; sign = p .sign; within = p .within }))
+parts-admitted t p = ap refusalOf (none-refused {f = moneyFormed t} {r = negative t} {size = value (unsigned (wholeText t))} {limit = moneyLimit} (record { formed = p .formed; sign = p .sign; within = p .within }))
 
 size-plain : (s : List ℕ) → negative s ≡ false → length s ≡ length (unsigned s)
 size-plain s e = ap length (sym (unsigned-plain s e))

@@ -9,7 +9,7 @@ use Rattle.base.specs.Join.{joined}
 use Rattle.figures.specs.Text.{value, unsigned}
 use Rattle.figures.specs.Groups.{groupsOf}
 use Rattle.figures.specs.Money.{wholeText, hundredthsText, moneyText}
-use Rattle.figures.specs.Refusals.{numberOf, judgeMoney}
+use Rattle.figures.specs.Refusals.{refusalOf, judgeMoney}
 use Rattle.uk.specs.Settings.{unlessSettings}
 use Rattle.money.specs.Currencies.{Currency}
 use Rattle.money.specs.Codes.{isCode}
@@ -18,7 +18,7 @@ use Rattle.money.specs.MoneyGrammar.{SaysMoney}
 
 -- 3, 4 or 5 where a money text is refused, else 0 (01, "Number texts")
 abbrev pub refusedText : List ℕ → ℕ
-refusedText t = numberOf (judgeMoney t)
+refusedText t = refusalOf (judgeMoney t)
 
 -- "A text is admitted for a kind if none of the conditions 3 to 5 holds of it" (01, "Phrase grammar and reader")
 abbrev pub Admitted : List ℕ → Type 0

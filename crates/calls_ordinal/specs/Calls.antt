@@ -8,17 +8,17 @@ use lib.IntN.{ℤ, natAbs}
 use Rattle.base.specs.Join.{joined}
 use Rattle.figures.specs.Text.{value}
 use Rattle.figures.specs.Groups.{groupsOf}
-use Rattle.figures.specs.Refusals.{numberOf, judgeDigits, judgeDigitOrdinal}
+use Rattle.figures.specs.Refusals.{refusalOf, judgeDigits, judgeDigitOrdinal}
 use Rattle.ordinal.specs.Ordinal.{ordinalWords}
 use Rattle.ordinal.specs.Year.{early, yearWords}
 
 -- an ordinal's text: 3 malformed, 4 negative, 5 above 66 digits; 0 for an admitted one
 abbrev pub refusedOrdinal : List ℕ → ℕ
-refusedOrdinal text = numberOf (judgeDigits false 66 text)
+refusedOrdinal text = refusalOf (judgeDigits false 66 text)
 
 -- a digit ordinal's text: 3 malformed, 4 negative, 5 above 2 ^ 128 - 1; 0 for an admitted one
 abbrev pub refusedDigitOrdinal : List ℕ → ℕ
-refusedDigitOrdinal text = numberOf (judgeDigitOrdinal text)
+refusedDigitOrdinal text = refusalOf (judgeDigitOrdinal text)
 
 -- the ordinal of an admitted number text
 unfoldable pub ordinalPhrase : ℕ → ℕ → ℕ → List ℕ → List ℕ

@@ -9,7 +9,7 @@ use lib.Dec.{eqb}
 use Rattle.base.specs.Join.{joined}
 use Rattle.figures.specs.Text.{value, negative, unsigned, signedText}
 use Rattle.figures.specs.Groups.{groupsOf}
-use Rattle.figures.specs.Refusals.{numberOf, judgeDigits}
+use Rattle.figures.specs.Refusals.{refusalOf, judgeDigits}
 use Rattle.uk.specs.Settings.{unlessSettings}
 use Rattle.uk.specs.Ukrainian.{ukrainian}
 use Rattle.uk.specs.Cardinal.{cardinalWords}
@@ -17,7 +17,7 @@ use Rattle.uk.specs.Grammar.{Says}
 
 -- 3 or 5 where a number text is refused, else 0 (01, "Number texts": at most 66 digits)
 abbrev pub refusedText : List ℕ → ℕ
-refusedText t = numberOf (judgeDigits true 66 t)
+refusedText t = refusalOf (judgeDigits true 66 t)
 
 -- "A text is admitted for a kind if none of the conditions 3 to 5 holds of it" (01, "Phrase grammar and reader")
 abbrev pub Admitted : List ℕ → Type 0

@@ -12,11 +12,11 @@ use Rattle.figures.specs.declared.Judged.{Judged}
 use Rattle.figures.specs.declared.Judged.the-variants.{Fine, Malformed, Negative, Large}
 
 -- the number of each refusal in 01's table, 0 for none
-abbrev pub numberOf : Judged → ℕ
-numberOf Fine = 0
-numberOf Malformed = 3
-numberOf Negative = 4
-numberOf Large = 5
+abbrev pub refusalOf : Judged → ℕ
+refusalOf Fine = 0
+refusalOf Malformed = 3
+refusalOf Negative = 4
+refusalOf Large = 5
 
 -- "the first that applies is given": malformed, a sign that is refused, above the limit
 abbrev pub judged : Bool → Bool → Bool → Judged

@@ -11,11 +11,11 @@ ghost use mathlib.Core.Path.{_≡_};
 ghost use mathlib.Core.Bool.{true, not};
 ghost use lib.Dec.{leb, ltb};
 ghost use Rattle.figures.specs.Text.{plain, value};
-ghost use Rattle.figures.specs.Refusals.{numberOf, judged, judgeDigits, judgeDigitOrdinal, judgeMoney, judgeYear};
+ghost use Rattle.figures.specs.Refusals.{refusalOf, judged, judgeDigits, judgeDigitOrdinal, judgeMoney, judgeYear};
 
 // 01's number of what is refused, 0 for nothing.
 pub fn number_of(j: Judged) -> u32
-    ensures { λ r. ⌜ r ≡ numberOf j ⌝ }
+    ensures { λ r. ⌜ r ≡ refusalOf j ⌝ }
 {
     match j {
         Judged::Fine => 0,
