@@ -75,13 +75,13 @@ lowest (zero ∷ gs) = suc (lowest gs)
 lowest (suc g ∷ gs) = 0
 
 -- no group is nonzero
-unfoldable pub zeros : List ℕ → Bool
-zeros [] = true
-zeros (g ∷ gs) = eqb g 0 && zeros gs
+unfoldable pub allZero : List ℕ → Bool
+allZero [] = true
+allZero (g ∷ gs) = eqb g 0 && allZero gs
 
 -- the words of an ordinal: "groups above the lowest nonzero one are nominative cardinals", which are all that is left once that one is set to 0;
 -- "the lowest carries the ending", whose softness goes by the number's last two digits, which stand in its group at order 0
 unfoldable pub ordinalWords : ℕ → ℕ → ℕ → List ℕ → List Word
 ordinalWords gender number case gs =
     groupsBelow (ukrainian 0 0) 22 (set gs (lowest gs) 0) ++
-    lowestWords (flexion (soft (getD gs 0 0)) gender number case) (zeros (drop (suc (lowest gs)) gs)) (lowest gs) (getD gs (lowest gs) 0)
+    lowestWords (flexion (soft (getD gs 0 0)) gender number case) (allZero (drop (suc (lowest gs)) gs)) (lowest gs) (getD gs (lowest gs) 0)

@@ -16,7 +16,7 @@ ghost use Rattle.phrase.specs.Plan.{says};
 ghost use Rattle.phrase.specs.Speaks.{Told};
 ghost use Rattle.uk.specs.Ukrainian.{ukrainian};
 ghost use Rattle.uk.specs.Cardinal.{groupsBelow};
-ghost use Rattle.ordinal.specs.Ordinal.{lowestWords, lowest as lowestOf, zeros, ordinalWords};
+ghost use Rattle.ordinal.specs.Ordinal.{lowestWords, lowest as lowestOf, allZero, ordinalWords};
 ghost use Rattle.ordinal.specs.Year.{eraWords, yearWords};
 ghost use Rattle.spell_ordinal.specs.Said.{Spoken};
 ghost use Rattle.spell_ordinal.specs.Groups.{Groups, sumOf};
@@ -53,7 +53,7 @@ fn sum(gs: &[u16; 22]) -> u32
 // Whether the lowest group that is not zero is the only one.
 fn is_lone(gs: &[u16; 22], order: usize) -> bool
     requires { ⌜ Groups (now gs) × (order < 22) × (order ≡ lowestOf (now gs)) ⌝ }
-    ensures { λ r. ⌜ r ≡ zeros (drop (suc order) (now (gs .entry))) ⌝ }
+    ensures { λ r. ⌜ r ≡ allZero (drop (suc order) (now (gs .entry))) ⌝ }
 {
     sum(gs) == gs[order] as u32
 }
