@@ -8,7 +8,7 @@ use lib.Dec.{eqb}
 use lib.ListN.{getD, drop, set}
 use Rattle.base.specs.Join.{Word}
 use Rattle.base.specs.Utf8.{utf8, form1, form2}
-use Rattle.uk.specs.UkTables.{teenBases, megaBases}
+use Rattle.uk.specs.UkTables.{teensBases, megaBases}
 use Rattle.uk.specs.Rules.{Words, opt, numWords}
 use Rattle.uk.specs.Ukrainian.{unitForm, ukrainian}
 use Rattle.uk.specs.Cardinal.{groupsBelow}
@@ -53,7 +53,7 @@ hundredWord ending = utf8 hundredBase ++ ending
 -- and a base of ORDINAL_UNIT_BASES, with the ending on the last"
 abbrev pub tailWords : Word → ℕ → ℕ → List Word
 tailWords ending t u =
-    cond (eqb t 1) ((form1 teenBases u ++ ending) ∷ [])
+    cond (eqb t 1) ((form1 teensBases u ++ ending) ∷ [])
     (cond (eqb u 0) ((form1 ordinalTensBases (t - 1) ++ ending) ∷ [])
     (opt (ukrainian 0 0 .ten) t ++ ((form1 ordinalUnitBases (u - 1) ++ ending) ∷ [])))
 

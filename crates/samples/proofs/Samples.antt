@@ -15,7 +15,7 @@ use Rattle.tokens.specs.Tokens.{firstWord, afterWord, split, keyFrom}
 use Rattle.meanings.specs.Lookup.{lookup, lookupIn}
 use Rattle.meanings_uk.specs.Meanings.{keys, values, others, meaningOf}
 use Rattle.figures.specs.Groups.{groupsOf, total}
-use Rattle.uk.specs.UkTables.{zeros, gendered, units, teenBases, teenFlexions, tens, hundreds, thousandFlexions, megaBases, megaFlexions}
+use Rattle.uk.specs.UkTables.{zeros, gendered, units, teensBases, teensFlexions, tens, hundreds, thousandFlexions, megaBases, megaFlexions}
 use Rattle.uk.specs.Ukrainian.{unitForm, teenForm, scaleEnding, nounForm, ukrainian}
 use Rattle.uk.specs.Cardinal.{groupOf, groupsBelow, cardinalWords}
 use Rattle.ordinal.specs.OrdinalTables.{ordinalZeroBase, oneBase, ordinalUnitBases, ordinalTensBases, hundredBase, adjectiveHardFlexionsSingular, adjectiveHardFlexionsPlural, adjectiveSoftFlexionsSingular, adjectiveSoftFlexionsPlural, year}
@@ -85,18 +85,18 @@ sum-two : total (sums 22 (unsigned (split twoThousand))) ≡ 2000
 sum-two = rw unsigned-words (above 20)
 
 unread-two : Holds (unread "два тисячі")
-unfolding form1 form2 form3 groupsOf zeros gendered units teenBases teenFlexions tens hundreds thousandFlexions megaBases megaFlexions unitForm teenForm scaleEnding nounForm ukrainian groupOf groupsBelow cardinalWords cardinal
+unfolding form1 form2 form3 groupsOf zeros gendered units teensBases teensFlexions tens hundreds thousandFlexions megaBases megaFlexions unitForm teenForm scaleEnding nounForm ukrainian groupOf groupsBelow cardinalWords cardinal
 unread-two =
     no-sentence 0 0 twoThousand false 2000 (lit< tt) (lit< tt) unsigned-two sum-two
     (apart (joined (cardinalWords (ukrainian 0 0) false false (groupsOf 22 2000))) twoThousand refl)
 
 -- "Errors of habit"
 genitive-after-five : Holds (never (card 0 0 3 "5000") "пʼять тисяч")
-unfolding form1 form2 form3 groupsOf zeros gendered units teenBases teenFlexions tens hundreds thousandFlexions megaBases megaFlexions unitForm teenForm scaleEnding nounForm ukrainian groupOf groupsBelow cardinalWords cardinal bytesOf
+unfolding form1 form2 form3 groupsOf zeros gendered units teensBases teensFlexions tens hundreds thousandFlexions megaBases megaFlexions unitForm teenForm scaleEnding nounForm ukrainian groupOf groupsBelow cardinalWords cardinal bytesOf
 genitive-after-five = other (replyTo (card 0 0 3 "5000")) (utf8 "пʼять тисяч") refl
 
 two-hundredth : Holds (never (ord 0 0 0 "200") "двохсотий")
-unfolding form1 form2 form3 groupsOf zeros gendered units teenBases teenFlexions tens hundreds thousandFlexions megaBases megaFlexions unitForm teenForm scaleEnding nounForm ukrainian groupOf groupsBelow cardinalWords cardinal ordinalZeroBase oneBase ordinalUnitBases ordinalTensBases hundredBase adjectiveHardFlexionsSingular adjectiveHardFlexionsPlural adjectiveSoftFlexionsSingular adjectiveSoftFlexionsPlural year flexion compounds scaleWord plainWords lowestWords lowest ordinalWords zerosBelow yearWords ordinalPhrase yearPhrase flatten bytesOf
+unfolding form1 form2 form3 groupsOf zeros gendered units teensBases teensFlexions tens hundreds thousandFlexions megaBases megaFlexions unitForm teenForm scaleEnding nounForm ukrainian groupOf groupsBelow cardinalWords cardinal ordinalZeroBase oneBase ordinalUnitBases ordinalTensBases hundredBase adjectiveHardFlexionsSingular adjectiveHardFlexionsPlural adjectiveSoftFlexionsSingular adjectiveSoftFlexionsPlural year flexion compounds scaleWord plainWords lowestWords lowest ordinalWords zerosBelow yearWords ordinalPhrase yearPhrase flatten bytesOf
 two-hundredth = other (replyTo (ord 0 0 0 "200")) (utf8 "двохсотий") refl
 
 un-mille : Holds (never (frenchCard 0 0 0 "1000") "un mille")
@@ -104,10 +104,10 @@ unfolding form1 groupsOf frUnits frTens teens megas centWord hundredWords tenWor
 un-mille = other (replyTo (frenchCard 0 0 0 "1000")) (utf8 "un mille") refl
 
 ascii-apostrophe : Holds (never (card 0 0 0 "5") "п'ять")
-unfolding form1 form2 form3 groupsOf zeros gendered units teenBases teenFlexions tens hundreds thousandFlexions megaBases megaFlexions unitForm teenForm scaleEnding nounForm ukrainian groupOf groupsBelow cardinalWords cardinal bytesOf
+unfolding form1 form2 form3 groupsOf zeros gendered units teensBases teensFlexions tens hundreds thousandFlexions megaBases megaFlexions unitForm teenForm scaleEnding nounForm ukrainian groupOf groupsBelow cardinalWords cardinal bytesOf
 ascii-apostrophe = other (replyTo (card 0 0 0 "5")) (utf8 "п'ять") refl
 
 pub samples-hold : All samples
-unfolding form1 form2 form3 groupsOf zeros gendered units teenBases teenFlexions tens hundreds thousandFlexions megaBases megaFlexions unitForm teenForm scaleEnding nounForm ukrainian groupOf groupsBelow cardinalWords cardinal ordinalZeroBase oneBase ordinalUnitBases ordinalTensBases hundredBase adjectiveHardFlexionsSingular adjectiveHardFlexionsPlural adjectiveSoftFlexionsSingular adjectiveSoftFlexionsPlural year flexion compounds scaleWord plainWords lowestWords lowest ordinalWords zerosBelow yearWords ordinalPhrase yearPhrase flatten noun2stGroupHardDeclensions noun2stGroupSoftDeclensions noun1stGroupSoftDeclensionsVowel noun1stGroupHardDeclensions adjectiveHardMasculine hryvnias kopiykas endings formOf nameForms currencies placeIn agreedName countWords moneyWords moneyPhrase frUnits frTens teens megas centWord hundredWords tenWord roundWord link unitWord pairWord lowWords scaleWords groupWords frGroupsBelow frCardinalWords cardinalPhrase withoutE nth frOrdinalPhrase cardinalOf ordinalOf
+unfolding form1 form2 form3 groupsOf zeros gendered units teensBases teensFlexions tens hundreds thousandFlexions megaBases megaFlexions unitForm teenForm scaleEnding nounForm ukrainian groupOf groupsBelow cardinalWords cardinal ordinalZeroBase oneBase ordinalUnitBases ordinalTensBases hundredBase adjectiveHardFlexionsSingular adjectiveHardFlexionsPlural adjectiveSoftFlexionsSingular adjectiveSoftFlexionsPlural year flexion compounds scaleWord plainWords lowestWords lowest ordinalWords zerosBelow yearWords ordinalPhrase yearPhrase flatten noun2stGroupHardDeclensions noun2stGroupSoftDeclensions noun1stGroupSoftDeclensionsVowel noun1stGroupHardDeclensions adjectiveHardMasculine hryvnias kopiykas endings formOf nameForms currencies placeIn agreedName countWords moneyWords moneyPhrase frUnits frTens teens megas centWord hundredWords tenWord roundWord link unitWord pairWord lowWords scaleWords groupWords frGroupsBelow frCardinalWords cardinalPhrase withoutE nth frOrdinalPhrase cardinalOf ordinalOf
 samples-hold =
     (refl, (refl, (refl, (refl, (refl, (refl, (refl, (refl, (refl, (refl, (refl, (refl, (refl, (refl, (refl, (refl, (refl, (refl, (refl, (unread-two, (genitive-after-five, (two-hundredth, (un-mille, (ascii-apostrophe, tt))))))))))))))))))))))))
