@@ -10,7 +10,7 @@ use Rattle.uk.specs.Rules.{Words, groupWords}
 -- groups of strictly falling order below k, and the sum of their values, each times 1000 to the power of its order
 pub data Falling (W : Words) : ℕ → List Word → ℕ → Type 0 where
   end : Falling W 0 [] 0
-  over : {k : ℕ} {ws : List Word} {n : ℕ} → Falling W k ws n → Falling W (suc k) ws n
+  skip : {k : ℕ} {ws : List Word} {n : ℕ} → Falling W k ws n → Falling W (suc k) ws n
   group : {k : ℕ} {ws : List Word} {n : ℕ} (h t u : ℕ) → h < 10 → t < 10 → u < 10 → 0 < 100 * h + 10 * t + u → Falling W k ws n
       → Falling W (suc k) (groupWords W k h t u ++ ws) ((100 * h + 10 * t + u) * 1000 ^ k + n)
 
