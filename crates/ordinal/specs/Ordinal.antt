@@ -38,12 +38,12 @@ compounds = record {
 }
 
 -- what stands before the scale base of the group g: nothing for "a lone group of 1", else its genitive words
-abbrev pub countWords : Bool → ℕ → List Word
-countWords lone g = cond (lone && eqb g 1) [] (numWords compounds 0 (g / 100 % 10) (g / 10 % 10) (g % 10))
+abbrev pub compoundWords : Bool → ℕ → List Word
+compoundWords lone g = cond (lone && eqb g 1) [] (numWords compounds 0 (g / 100 % 10) (g / 10 % 10) (g % 10))
 
 -- the lowest group g above order 0, "one word": what counts it "run together", the "scale base, н, ending"
 unfoldable pub scaleWord : Word → Bool → ℕ → ℕ → Word
-scaleWord ending lone order g = flatten (countWords lone g ++ (form1 megaBases (order - 1) ∷ utf8 "н" ∷ ending ∷ []))
+scaleWord ending lone order g = flatten (compoundWords lone g ++ (form1 megaBases (order - 1) ∷ utf8 "н" ∷ ending ∷ []))
 
 -- "a group ending in 00 writes only HUNDRED_BASE and ending"
 abbrev pub hundredWord : Word → Word
