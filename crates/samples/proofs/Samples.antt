@@ -19,7 +19,7 @@ use Rattle.uk.specs.UkTables.{zeros, gendered, units, teensBases, teensFlexions
 use Rattle.uk.specs.Ukrainian.{unitForm, teenForm, scaleEnding, nounForm, ukrainian}
 use Rattle.uk.specs.Cardinal.{groupOf, groupsBelow, cardinalWords}
 use Rattle.ordinal.specs.OrdinalTables.{ordinalZeroBase, oneBase, ordinalUnitBases, ordinalTensBases, hundredBase, adjectiveHardFlexionsSingular, adjectiveHardFlexionsPlural, adjectiveSoftFlexionsSingular, adjectiveSoftFlexionsPlural, year}
-use Rattle.ordinal.specs.Ordinal.{flexion, compounds, scaleWord, plainWords, lowestWords, lowest, ordinalWords, zeros as zerosBelow}
+use Rattle.ordinal.specs.Ordinal.{flexion, compounds, scaleWord, plainWords, lowestWords, lowest, ordinalWords, allZero}
 use Rattle.ordinal.specs.Year.{yearWords}
 use Rattle.money.specs.NounTables.{noun2stGroupHardDeclensions, noun2stGroupSoftDeclensions, noun1stGroupSoftDeclensionsVowel, noun1stGroupHardDeclensions, adjectiveHardMasculine, hryvnias, kopiykas}
 use Rattle.money.specs.Nouns.{endings, formOf, nameForms}
@@ -96,7 +96,7 @@ unfolding form1 form2 form3 groupsOf zeros gendered units teensBases teensFlexio
 genitive-after-five = other (replyTo (card 0 0 3 "5000")) (utf8 "пʼять тисяч") refl
 
 two-hundredth : Holds (never (ord 0 0 0 "200") "двохсотий")
-unfolding form1 form2 form3 groupsOf zeros gendered units teensBases teensFlexions tens hundreds thousandFlexions megaBases megaFlexions unitForm teenForm scaleEnding nounForm ukrainian groupOf groupsBelow cardinalWords cardinal ordinalZeroBase oneBase ordinalUnitBases ordinalTensBases hundredBase adjectiveHardFlexionsSingular adjectiveHardFlexionsPlural adjectiveSoftFlexionsSingular adjectiveSoftFlexionsPlural year flexion compounds scaleWord plainWords lowestWords lowest ordinalWords zerosBelow yearWords ordinalPhrase yearPhrase flatten bytesOf
+unfolding form1 form2 form3 groupsOf zeros gendered units teensBases teensFlexions tens hundreds thousandFlexions megaBases megaFlexions unitForm teenForm scaleEnding nounForm ukrainian groupOf groupsBelow cardinalWords cardinal ordinalZeroBase oneBase ordinalUnitBases ordinalTensBases hundredBase adjectiveHardFlexionsSingular adjectiveHardFlexionsPlural adjectiveSoftFlexionsSingular adjectiveSoftFlexionsPlural year flexion compounds scaleWord plainWords lowestWords lowest ordinalWords allZero yearWords ordinalPhrase yearPhrase flatten bytesOf
 two-hundredth = other (replyTo (ord 0 0 0 "200")) (utf8 "двохсотий") refl
 
 un-mille : Holds (never (frenchCard 0 0 0 "1000") "un mille")
@@ -108,6 +108,6 @@ unfolding form1 form2 form3 groupsOf zeros gendered units teensBases teensFlexio
 ascii-apostrophe = other (replyTo (card 0 0 0 "5")) (utf8 "п'ять") refl
 
 pub samples-hold : All samples
-unfolding form1 form2 form3 groupsOf zeros gendered units teensBases teensFlexions tens hundreds thousandFlexions megaBases megaFlexions unitForm teenForm scaleEnding nounForm ukrainian groupOf groupsBelow cardinalWords cardinal ordinalZeroBase oneBase ordinalUnitBases ordinalTensBases hundredBase adjectiveHardFlexionsSingular adjectiveHardFlexionsPlural adjectiveSoftFlexionsSingular adjectiveSoftFlexionsPlural year flexion compounds scaleWord plainWords lowestWords lowest ordinalWords zerosBelow yearWords ordinalPhrase yearPhrase flatten noun2stGroupHardDeclensions noun2stGroupSoftDeclensions noun1stGroupSoftDeclensionsVowel noun1stGroupHardDeclensions adjectiveHardMasculine hryvnias kopiykas endings formOf nameForms currencies placeIn agreedName countWords moneyWords moneyPhrase frUnits frTens teens megas centWord hundredWords tenWord roundWord link unitWord pairWord lowWords scaleWords groupWords frGroupsBelow frCardinalWords cardinalPhrase withoutE nth frOrdinalPhrase cardinalOf ordinalOf
+unfolding form1 form2 form3 groupsOf zeros gendered units teensBases teensFlexions tens hundreds thousandFlexions megaBases megaFlexions unitForm teenForm scaleEnding nounForm ukrainian groupOf groupsBelow cardinalWords cardinal ordinalZeroBase oneBase ordinalUnitBases ordinalTensBases hundredBase adjectiveHardFlexionsSingular adjectiveHardFlexionsPlural adjectiveSoftFlexionsSingular adjectiveSoftFlexionsPlural year flexion compounds scaleWord plainWords lowestWords lowest ordinalWords allZero yearWords ordinalPhrase yearPhrase flatten noun2stGroupHardDeclensions noun2stGroupSoftDeclensions noun1stGroupSoftDeclensionsVowel noun1stGroupHardDeclensions adjectiveHardMasculine hryvnias kopiykas endings formOf nameForms currencies placeIn agreedName countWords moneyWords moneyPhrase frUnits frTens teens megas centWord hundredWords tenWord roundWord link unitWord pairWord lowWords scaleWords groupWords frGroupsBelow frCardinalWords cardinalPhrase withoutE nth frOrdinalPhrase cardinalOf ordinalOf
 samples-hold =
     (refl, (refl, (refl, (refl, (refl, (refl, (refl, (refl, (refl, (refl, (refl, (refl, (refl, (refl, (refl, (refl, (refl, (refl, (refl, (unread-two, (genitive-after-five, (two-hundredth, (un-mille, (ascii-apostrophe, tt))))))))))))))))))))))))
