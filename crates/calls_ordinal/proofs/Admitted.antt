@@ -27,7 +27,7 @@ use Rattle.uk.proofs.Ranges.{ranges}
 use Rattle.base.specs.Join.{joined}
 use Rattle.ordinal.specs.Ordinal.{ordinalWords}
 use Rattle.ordinal.specs.Year.{early, yearWords}
-use Rattle.spell_ordinal.specs.Groups.{Groups}
+use Rattle.spell_ordinal.specs.Groups.{Groups22}
 use Rattle.calls_ordinal.specs.Calls.{refusedOrdinal, refusedDigitOrdinal, ordinalPhrase, yearPhrase}
 
 -- neither the settings nor the text are refused
@@ -70,7 +70,7 @@ digit-ordinal-digits xs e =
     (plain-digits xs p, plain-some xs p, few xs p (lt-of-le-of-lt w (lit< tt)))
 
 -- the groups of a number are groups
-pub groups : (n : ℕ) → Groups (groupsOf 22 n)
+pub groups : (n : ℕ) → Groups22 (groupsOf 22 n)
 groups n = record { count = groups-length 22 n; below = λ i. go i (decLt i 22) }
   where
     go : (i : ℕ) → Dec (i < 22) → getD (groupsOf 22 n) i 0 < 1000
