@@ -1,13 +1,14 @@
 -- The form of a line (01, "The program phrases"): words divided by single spaces, the names of kinds, languages and settings, and texts.
 -- Assumes nothing.
-use Prim.Native.Nat.{ℕ, zero, suc, _-_}
+use Prim.Native.Nat.{ℕ, suc, _-_}
 use Prim.Native.String.{String}
-use mathlib.Core.Bool.{Bool, true, false, cond, not, _&&_}
+use mathlib.Core.Bool.{Bool, true, cond, not, _&&_}
 use mathlib.Core.List.{List, [], _∷_}
 use lib.Dec.{eqb}
 use lib.ListN.{length, getD, take}
 use Rattle.base.specs.Join.{Word}
 use Rattle.base.specs.Utf8.{utf8}
+use Rattle.base.specs.Same.{sameText}
 use Rattle.forms.specs.declared.Kind.{Kind}
 use Rattle.forms.specs.declared.Kind.the-variants.{Card, Ord, Num, Year, Money, Other}
 use Rattle.forms.specs.declared.Language.{Language}
@@ -23,17 +24,10 @@ unfoldable pub rest : List ℕ → List ℕ
 rest [] = []
 rest (b ∷ s) = cond (eqb b 32) s (rest s)
 
--- whether two words are the same bytes
-abbrev pub same : Word → Word → Bool
-same [] [] = true
-same [] (c ∷ w) = false
-same (b ∷ v) [] = false
-same (b ∷ v) (c ∷ w) = eqb b c && same v w
-
 -- the place of a word among names, counted from k; behind the last where it is none of them
 abbrev pub placeFrom : ℕ → List String → Word → ℕ
 placeFrom k [] w = k
-placeFrom k (n ∷ ns) w = cond (same (utf8 n) w) k (placeFrom (suc k) ns w)
+placeFrom k (n ∷ ns) w = cond (sameText (utf8 n) w) k (placeFrom (suc k) ns w)
 
 abbrev pub placeIn : List String → Word → ℕ
 placeIn ns w = placeFrom 0 ns w
@@ -41,15 +35,15 @@ placeIn ns w = placeFrom 0 ns w
 -- "Kinds: card, ord, num, year, money"
 unfoldable pub kindOf : Word → Kind
 kindOf w =
-    cond (same (utf8 "(card") w) Card
-    (cond (same (utf8 "(ord") w) Ord
-    (cond (same (utf8 "(num") w) Num
-    (cond (same (utf8 "(year") w) Year
-    (cond (same (utf8 "(money") w) Money Other))))
+    cond (sameText (utf8 "(card") w) Card
+    (cond (sameText (utf8 "(ord") w) Ord
+    (cond (sameText (utf8 "(num") w) Num
+    (cond (sameText (utf8 "(year") w) Year
+    (cond (sameText (utf8 "(money") w) Money Other))))
 
 -- the language, which opens the settings
 unfoldable pub languageOf : Word → Language
-languageOf w = cond (same (utf8 "(uk") w) Ukrainian (cond (same (utf8 "(fr") w) French Neither)
+languageOf w = cond (sameText (utf8 "(uk") w) Ukrainian (cond (sameText (utf8 "(fr") w) French Neither)
 
 -- "`(uk m sing nom)` with m f n, sing plur, nom gen dat acc ins loc": 01's setting numbers, out of range for any other word
 unfoldable pub genderOf : Word → ℕ

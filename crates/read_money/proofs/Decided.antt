@@ -4,16 +4,17 @@
 use Prim.Native.Nat.{ℕ, zero, suc, _<_, _≤_}
 use mathlib.Core.Path.{_≡_, refl, sym, _∙_, ap}
 use mathlib.Core.Bool.{Bool, true, false, _&&_}
-use mathlib.Core.List.{List, [], _∷_}
+use mathlib.Core.List.{List}
 use native.Mathlib.Omega.{arith}
-use borrow.Author.Tests.{eq-eqb, leb-true, leb-false}
+use borrow.Author.Tests.{leb-true, leb-false}
 use lib.Dec.{eqb, leb}
 use lib.ListN.{getD}
 use Rattle.base.specs.Join.{joined}
 use Rattle.figures.specs.Groups.{groupsOf, total}
 use Rattle.figures.specs.Money.{moneyLimit}
 use Rattle.figures.proofs.Laws.Groups.{groups-at}
-use Rattle.tables.proofs.Tests.{same, same-is, clash}
+use Rattle.base.specs.Same.{sameText}
+use Rattle.base.proofs.Same.{same-is, same-not}
 use Rattle.tokens.specs.Tokens.{split}
 use Rattle.read_uk.specs.Reading.{sums, left}
 use Rattle.money.specs.Currencies.{Currency, currencyAt}
@@ -40,16 +41,12 @@ module _ (c : Currency) (case : ℕ) where
       let a = amount-is c case (p .derives) in
       (a .0, a .1, ap joined (sym (a .2 (groupsOf 22 n) (λ o i. groups-at 22 n o i))) ∙ sym (p .bytes))
 
-same-self : (s : List ℕ) → same s s ≡ true
-same-self [] = refl
-same-self (b ∷ s) = rw (eq-eqb b b refl) (same-self s)
-
 decide-same : (w s : List ℕ) → Dec (w ≡ s)
-decide-same w s = go (same w s) refl
+decide-same w s = go (sameText w s) refl
   where
-    go : (t : Bool) → same w s ≡ t → Dec (w ≡ s)
+    go : (t : Bool) → sameText w s ≡ t → Dec (w ≡ s)
     go true e = yes (same-is w s e)
-    go false e = no (λ p. clash (sym (same-self w) ∙ ap (same w) p ∙ e))
+    go false e = no (same-not w s e)
 
 decide-le : (m n : ℕ) → Dec (m ≤ n)
 decide-le m n = go (leb m n) refl

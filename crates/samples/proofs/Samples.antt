@@ -1,16 +1,16 @@
 -- 01's samples hold: each line is computed from the written rules.
 -- Assumes nothing.
 use Prim.Native.Nat.{ℕ, zero, suc}
-use mathlib.Core.Path.{_≡_, refl, sym, ap, _∙_}
-use mathlib.Core.Bool.{Bool, true, false}
+use mathlib.Core.Path.{_≡_, refl, ap, _∙_}
+use mathlib.Core.Bool.{false}
 use mathlib.Core.List.{List, [], _∷_, flatten}
 use native.Mathlib.Omega.{arith}
-use borrow.Author.Tests.{eq-eqb}
 use lib.Dec.{lit<}
 use Rattle.base.specs.Utf8.{utf8, form1, form2, form3}
 use Rattle.base.specs.Answer.{Reply, refused, bytes}
 use Rattle.base.specs.Join.{joined}
-use Rattle.tables.proofs.Tests.{same, clash}
+use Rattle.base.specs.Same.{sameText}
+use Rattle.base.proofs.Same.{same-not}
 use Rattle.tokens.specs.Tokens.{firstWord, afterWord, split, keyFrom}
 use Rattle.meanings.specs.Lookup.{lookup, lookupIn}
 use Rattle.meanings_uk.specs.Meanings.{keys, values, others, meaningOf}
@@ -40,22 +40,14 @@ use Rattle.calls_fr.specs.Calls.{cardinalOf, ordinalOf}
 use Rattle.samples.specs.Samples.{replyTo, card, ord, frenchCard, never, unread, Holds, samples, All}
 use Rattle.samples.proofs.Unread.{no-sentence}
 
--- two texts that a test tells apart
-same-own : (w : List ℕ) → same w w ≡ true
-same-own [] = refl
-same-own (b ∷ w) = rw (eq-eqb b b refl) (same-own w)
-
-apart : (a b : List ℕ) → same a b ≡ false → a ≡ b → ⊥
-apart a b e q = clash (sym (same-own b) ∙ ap (λ (x : List ℕ). same x b) (sym q) ∙ e)
-
 -- a reply that is another text
 bytesOf : Reply → List ℕ
 bytesOf (refused n l) = []
 bytesOf (bytes b) = b
 
-other : (r : Reply) (b : List ℕ) → same (bytesOf r) b ≡ false → r ≡ bytes b → ⊥
+other : (r : Reply) (b : List ℕ) → sameText (bytesOf r) b ≡ false → r ≡ bytes b → ⊥
 unfolding bytesOf
-other r b e q = apart (bytesOf r) b e (ap bytesOf q)
+other r b e q = same-not (bytesOf r) b e (ap bytesOf q)
 
 -- `два тисячі`: what is made of it is 2000, whose phrase is another
 abbrev twoThousand : List ℕ
@@ -88,7 +80,7 @@ unread-two : Holds (unread "два тисячі")
 unfolding form1 form2 form3 groupsOf zeros gendered units teensBases teensFlexions tens hundreds thousandFlexions megaBases megaFlexions unitForm teenForm scaleEnding nounForm ukrainian groupOf groupsBelow cardinalWords cardinal
 unread-two =
     no-sentence 0 0 twoThousand false 2000 (lit< tt) (lit< tt) unsigned-two sum-two
-    (apart (joined (cardinalWords (ukrainian 0 0) false false (groupsOf 22 2000))) twoThousand refl)
+    (same-not (joined (cardinalWords (ukrainian 0 0) false false (groupsOf 22 2000))) twoThousand refl)
 
 -- "Errors of habit"
 genitive-after-five : Holds (never (card 0 0 3 "5000") "пʼять тисяч")

@@ -12,7 +12,9 @@ use Rattle.base.specs.Utf8.{utf8, form1, form2, form3}
 use Rattle.base.specs.Bank.{textIn}
 use Rattle.bank_uk.specs.Names.{names}
 use Rattle.words.specs.Text.{text}
-use Rattle.tables.proofs.Tests.{and-left, and-right, all, all-at, same, same-is}
+use Rattle.base.specs.Same.{sameText}
+use Rattle.base.proofs.Same.{same-is}
+use Rattle.tables.proofs.Tests.{and-left, and-right, all, all-at}
 use Rattle.uk.specs.UkTables.{zeros, gendered, units, teensBases, teensFlexions, tens, hundreds, thousandFlexions, megaBases, megaFlexions}
 use Rattle.uk.specs.Ukrainian.{unitForm}
 use Rattle.uk.specs.Columns.{ending, Column}
@@ -21,7 +23,7 @@ use Rattle.uk.proofs.Ids.{table}
 -- the place r of the column l has the word w
 entry : List ℕ → ℕ → List ℕ → Bool
 unfolding text textIn names
-entry l r w = same (text (getD l r 0)) w
+entry l r w = sameText (text (getD l r 0)) w
 
 holds : (l : List ℕ) (r : ℕ) (w : List ℕ) → entry l r w ≡ true → text (getD l r 0) ≡ w
 unfolding entry
