@@ -1,10 +1,9 @@
 // The plans of Ukrainian ordinals and years. A number comes as its groups of three digits, lowest order first.
 mod compound;
-mod pieces;
 mod plain;
 
-use crate::pieces::SPACE;
 use phrase::push;
+use spell_uk::SPACE;
 use uk::Settings;
 ghost use mathlib.Core.Path.{_≡_};
 ghost use Prim.Native.Nat.{suc, _+_, _≤_, _<_};
