@@ -13,9 +13,11 @@ pub record Currency : Type 0 where
   pub main : Name
   pub fraction : Name
 
+-- a currency from its code and the names of its units
 abbrev currency : String → Name → Name → Currency
 currency code main fraction = record { code = code; main = main; fraction = fraction }
 
+-- all 44, in from_str's order
 unfoldable pub currencies : List Currency
 currencies =
     currency "AED" (masculine "дирхам" hard2) (masculine "філс" hard2) ∷
