@@ -51,7 +51,7 @@ pub fn judge(s: &[u8], signed: bool, most: usize) -> Judged
 }
 
 // Whether s means at most what l means.
-pub fn at_most(s: &[u8], l: &[u8]) -> bool
+fn at_most(s: &[u8], l: &[u8]) -> bool
     requires { ⌜ plain (now s) ≡ true ⌝ }
     requires { ⌜ plain (now l) ≡ true ⌝ }
     ensures { λ r. ⌜ r ≡ leb (value (now (s .entry))) (value (now (l .entry))) ⌝ }

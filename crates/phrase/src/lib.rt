@@ -46,7 +46,7 @@ fn following_len(plan: &[u32]) -> usize
 }
 
 // The length of a phrase.
-pub fn len(plan: &[u32]) -> usize
+fn len(plan: &[u32]) -> usize
     requires { ⌜ length (now plan) ≤ 1000 ⌝ }
     ensures { λ r. ⌜ (r ≡ length (phraseOf (pieces (now (plan .entry))))) × (r ≤ 40 * length (now (plan .entry))) ⌝ }
 {
@@ -87,7 +87,7 @@ fn put_following(plan: &[u32], out: &mut [u8]) -> usize
 }
 
 // Writes a phrase over the front of out.
-pub fn put(plan: &[u32], out: &mut [u8]) -> usize
+fn put(plan: &[u32], out: &mut [u8]) -> usize
     requires { ⌜ length (phraseOf (pieces (now plan))) ≤ length (now out) ⌝ }
     ensures { λ r. ⌜ (r ≡ length (phraseOf (pieces (now (plan .entry))))) × (now (out .exit) ≡ over (now (out .entry)) (phraseOf (pieces (now (plan .entry))))) ⌝ }
 {
