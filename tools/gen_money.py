@@ -131,7 +131,7 @@ use Prim.Native.Nat.{ℕ}
 use Prim.Native.String.{String}
 use mathlib.Core.List.{List, [], _∷_}
 use lib.ListN.{getD}
-use Rattle.money.specs.Nouns.{Class, hard2, soft2, vowel1, hard1, adj, fixed, hryvnia, kopiyka, Name, masculine, feminine, masculine-pair}
+use Rattle.money.specs.Nouns.{hard2, soft2, vowel1, hard1, adj, fixed, hryvnia, kopiyka, Name, masculine, feminine, masculine-pair}
 
 -- a currency: its code, and the names of its main unit and of its fraction
 pub record Currency : Type 0 where
