@@ -69,7 +69,7 @@ class Crate:
 
     def specs(self):
         said = {
-            'keys': 'the keys that have a place in the tables, by their rest at %d' % self.slots,
+            'keys': 'the keys that have a place in the tables, by their remainder by %d' % self.slots,
             'values': 'what they mean',
             'others': 'what the others mean',
         }
@@ -78,11 +78,12 @@ class Crate:
             row = ' ∷ '.join(['(%d, %d)' % (k, v) for k, v, w in reversed(entries)] + ['[]'])
             lists += '-- %s\nunfoldable pub %s : Entries\n%s =\n%s\n\n' % (said[name], name, name, filled(row))
         self.write('specs/Lib.antt', 'pub mod Meanings\n')
-        self.write('specs/Meanings.antt', '''-- What the words of the %s numbers mean, by their keys: 1 to 999 a number, 1000 and more a scale word of that order%s, 2001 minus, 0 nothing.
+        self.write('specs/Meanings.antt', '''-- What the words of the %s numbers mean, by their keys: 1 to 999 a number,
+-- 1000 and more a scale word of that order%s, 2001 minus, 0 nothing.
 -- What a reader makes of these is held against the grammar's own words afterwards, so nothing here has to be believed.
 -- Assumes nothing.
 use Prim.Native.Nat.{ℕ}
-use mathlib.Core.List.{List, [], _∷_}
+use mathlib.Core.List.{[], _∷_}
 use Rattle.meanings.specs.Lookup.{Entries, lookupIn}
 
 %s-- the meaning of the word with this key

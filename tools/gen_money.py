@@ -106,9 +106,9 @@ use mathlib.Core.List.{List, [], _∷_}
         if not cls[2]:
             continue
         if cls[0] == 'adj':
-            out += '\n-- the masculine row of ADJECTIVE_HARD_FLEXIONS_SINGULAR, and ADJECTIVE_HARD_FLEXIONS_PLURAL\n'
+            out += '\n-- the masculine row of `ADJECTIVE_HARD_FLEXIONS_SINGULAR`, and `ADJECTIVE_HARD_FLEXIONS_PLURAL`\n'
         else:
-            out += '\n' + ('-- as %s\n' % cls[3] if cls[3] else '-- written out whole\n')
+            out += '\n-- `%s`: %s\n' % (cls[1], 'as ' + cls[3] if cls[3] else 'written out whole')
         out += 'unfoldable pub %s : List (List String)\n%s =\n%s' % (cls[2], cls[2], lines(table))
     write('specs/NounTables.antt', out)
 
@@ -131,7 +131,7 @@ use Prim.Native.Nat.{ℕ}
 use Prim.Native.String.{String}
 use mathlib.Core.List.{List, [], _∷_}
 use lib.ListN.{getD}
-use Rattle.money.specs.Nouns.{Class, hard2, soft2, vowel1, hard1, adj, fixed, hryvnia, kopiyka, Name, masculine, feminine, masculine-pair}
+use Rattle.money.specs.Nouns.{hard2, soft2, vowel1, hard1, adj, fixed, hryvnia, kopiyka, Name, masculine, feminine, masculine-pair}
 
 -- a currency: its code, and the names of its main unit and of its fraction
 pub record Currency : Type 0 where
@@ -139,9 +139,11 @@ pub record Currency : Type 0 where
   pub main : Name
   pub fraction : Name
 
+-- a currency from its code and the names of its units
 abbrev currency : String → Name → Name → Currency
 currency code main fraction = record { code = code; main = main; fraction = fraction }
 
+-- all 44, in from_str's order
 unfoldable pub currencies : List Currency
 currencies =
 %s

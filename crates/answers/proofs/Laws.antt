@@ -15,12 +15,12 @@ use Rattle.base.specs.Buffer.{over}
 use Rattle.base.specs.Answer.{refused, bytes, fitted, replied, Answers}
 use Rattle.base.specs.declared.Answer.{Answer}
 use Rattle.figures.specs.Text.{value, negative, unsigned, wellFormed}
-use Rattle.figures.specs.Refusals.{judged, judgeYear, numberOf as refusalOf}
+use Rattle.figures.specs.Refusals.{judged, judgeYear, refusalOf}
 use Rattle.figures.specs.Year.{yearOf, yearLimit}
 use Rattle.figures.specs.declared.Judged.{Judged}
 use Rattle.figures.specs.declared.Judged.the-variants.{Fine, Malformed, Negative, Large}
-use Rattle.uk.specs.Settings.{inRange}
-use Rattle.calls_ordinal.specs.Calls.{unlessSettings, yearPhrase}
+use Rattle.uk.specs.Settings.{inRange, unlessSettings}
+use Rattle.calls_ordinal.specs.Calls.{yearPhrase}
 use Rattle.calls_fr.specs.Calls.{french, inRange as inFrenchRange}
 use Rattle.forms.specs.Line.{first, rest, kindOf, languageOf, genderOf, grammaticalNumberOf, caseOf, feminineOf, reformedOf, regionOf, closed}
 use Rattle.forms.specs.declared.Kind.{Kind}

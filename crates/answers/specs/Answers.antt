@@ -6,13 +6,12 @@ use mathlib.Core.List.{List, [], _∷_, _++_}
 use lib.Dec.{eqb, leb}
 use lib.ListN.{length}
 use Rattle.base.specs.Utf8.{utf8}
-use Rattle.figures.specs.Refusals.{judgeYear, numberOf as refusalOf}
+use Rattle.figures.specs.Refusals.{judgeYear, refusalOf}
 use Rattle.figures.specs.Year.{yearOf}
-use Rattle.uk.specs.Settings.{inRange}
-use Rattle.money.specs.Currencies.{currencyAt}
-use Rattle.money.specs.Codes.{placeOf}
+use Rattle.uk.specs.Settings.{inRange, unlessSettings}
+use Rattle.money.specs.Codes.{currencyOf}
 use Rattle.calls_uk.specs.Cardinals.{refusedCardinal, cardinal}
-use Rattle.calls_ordinal.specs.Calls.{unlessSettings, ordinalText, digitOrdinalText, ordinalPhrase, yearPhrase}
+use Rattle.calls_ordinal.specs.Calls.{refusedOrdinal, refusedDigitOrdinal, ordinalPhrase, yearPhrase}
 use Rattle.ordinal.specs.DigitOrdinal.{digitOrdinal}
 use Rattle.calls_money.specs.MoneyCalls.{refusedAmount, moneyPhrase}
 use Rattle.calls_fr.specs.Calls.{french, firstRefusal, cardinalRefusal, ordinalRefusal, cardinalOf, ordinalOf, inRange as inFrenchRange}
@@ -33,13 +32,13 @@ badLine = utf8 "bad line" ++ (10 ∷ [])
 -- an amount with this code, of which s is left: a text and the closing bracket
 unfoldable pub amount : ℕ → ℕ → ℕ → List ℕ → List ℕ → List ℕ
 amount g n c code s =
-    cond (run code && closed s) (told (refusedAmount g n c code (inner s)) (moneyPhrase (currencyAt (placeOf code)) c (inner s))) badLine
+    cond (run code && closed s) (told (refusedAmount g n c code (inner s)) (moneyPhrase (currencyOf code) c (inner s))) badLine
 
 -- a Ukrainian form of a kind, with settings in their ranges, of which s is left: a text and the closing bracket; "money (code before text)"
 unfoldable pub ukrainian : Kind → ℕ → ℕ → ℕ → List ℕ → List ℕ
 ukrainian Card g n c s = cond (closed s) (told (refusedCardinal g n c (inner s)) (cardinal g c (inner s))) badLine
-ukrainian Ord g n c s = cond (closed s) (told (unlessSettings g n c (ordinalText (inner s))) (ordinalPhrase g n c (inner s))) badLine
-ukrainian Num g n c s = cond (closed s) (told (unlessSettings g n c (digitOrdinalText (inner s))) (digitOrdinal g n c (inner s))) badLine
+ukrainian Ord g n c s = cond (closed s) (told (unlessSettings g n c (refusedOrdinal (inner s))) (ordinalPhrase g n c (inner s))) badLine
+ukrainian Num g n c s = cond (closed s) (told (unlessSettings g n c (refusedDigitOrdinal (inner s))) (digitOrdinal g n c (inner s))) badLine
 ukrainian Year g n c s = cond (closed s) (told (refusalOf (judgeYear (inner s))) (yearPhrase n c (yearOf (inner s)))) badLine
 ukrainian Money g n c s = amount g n c (first s) (rest s)
 ukrainian Other g n c s = badLine

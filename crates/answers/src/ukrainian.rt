@@ -12,7 +12,7 @@ ghost use lib.ListN.{length};
 ghost use Rattle.uk.specs.Settings.{inRange};
 ghost use Rattle.forms.specs.declared.Kind.the-variants.{Card, Ord, Num, Year, Money};
 ghost use Rattle.forms.specs.declared.Language.the-variants.{Ukrainian as UkrainianLanguage};
-ghost use Rattle.figures.specs.Refusals.{judgeYear, numberOf as refusalOf};
+ghost use Rattle.figures.specs.Refusals.{judgeYear, refusalOf};
 ghost use Rattle.figures.specs.Year.{yearOf};
 ghost use Rattle.calls_ordinal.specs.Calls.{yearPhrase};
 ghost use Rattle.answers.specs.Answers.{told, amount as amountForm, ukrainian as ukrainianForm, settled};

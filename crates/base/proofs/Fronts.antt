@@ -13,7 +13,7 @@ use lib.Seq.{drop-cons}
 use Rattle.base.specs.Front.{begins, passed}
 use Rattle.base.specs.Four.{Four}
 
-and-false : (b : Bool) → (b && false) ≡ false
+pub and-false : (b : Bool) → (b && false) ≡ false
 and-false true = refl
 and-false false = refl
 
@@ -37,7 +37,7 @@ pub all-on : (w s : List ℕ) (i : ℕ) → length w ≤ i → begins w s ≡ be
 all-on w s i h p = rw (p, drop-of-length-le w {i = i} h) refl
 
 -- what begins with w is w and a rest
-and-both : (a b : Bool) → (a && b) ≡ true → (a ≡ true) × (b ≡ true)
+pub and-both : (a b : Bool) → (a && b) ≡ true → (a ≡ true) × (b ≡ true)
 and-both true b e = (refl, e)
 and-both false b e = let z : _≡_ {A = ℕ} 0 1 = cc in absurd (omega arith)
 

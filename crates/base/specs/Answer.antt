@@ -14,26 +14,26 @@ pub data Reply : Type 0 where
   refused : ℕ → ℕ → Reply
   bytes : List ℕ → Reply
 
--- the number of a reply
+-- the number of a reply: 0 where nothing is refused
 abbrev pub numberOf : Reply → ℕ
 numberOf (refused n l) = n
 numberOf (bytes b) = 0
 
--- the length that it reports
+-- the length that it reports: "the answer's", or what comes with the refusal
 abbrev pub lengthOf : Reply → ℕ
 lengthOf (refused n l) = l
 lengthOf (bytes b) = length b
 
--- what the buffer xs holds then
+-- what the buffer xs holds then: "A refusal changes no buffer"
 abbrev pub bufferOf : List ℕ → Reply → List ℕ
 bufferOf xs (refused n l) = xs
 bufferOf xs (bytes b) = over xs b
 
--- the bytes b for the buffer xs: refusal 7 with their length where the buffer is shorter
+-- the bytes b for the buffer xs; where it is "shorter than the answer", refusal 7, which "reports the length needed"
 abbrev pub fitted : List ℕ → List ℕ → Reply
 fitted xs b = cond (ltb (length xs) (length b)) (refused 7 (length b)) (bytes b)
 
--- the refusal n, or where n is 0 the bytes b for the buffer xs
+-- the refusal n, whose length "is 0", or where n is 0 the bytes b for the buffer xs
 abbrev pub replied : ℕ → List ℕ → List ℕ → Reply
 replied zero b xs = fitted xs b
 replied (suc n) b xs = refused (suc n) 0
@@ -44,8 +44,8 @@ pub record Answers (r : Answer) (xs ys : List ℕ) (reply : Reply) : Type 0 wher
   pub length : r .length ≡ lengthOf reply
   pub buffer : ys ≡ bufferOf xs reply
 
--- what a reading call promises of its answer r to the phrase s, for the buffer xs left as ys, where no refusal comes before the phrase's:
--- a sentence whose value is the text t is answered by t, or by 7 where t does not fit; what is no sentence is refused by 6
+-- what a reading call promises of its answer r to the phrase s, for the buffer xs left as ys, where no refusal comes before the phrase's (01,
+-- "Phrase grammar and reader"): a sentence whose value is the text t is answered by t, or by 7 where t does not fit; any other bytes by 6
 pub record Reads (Means : List ℕ → List ℕ → Type 0) (s : List ℕ) (r : Answer) (xs ys : List ℕ) : Type 0 where
   pub sentence : (t : List ℕ) → Means s t → Answers r xs ys (fitted xs t)
   pub none : ((t : List ℕ) → Means s t → ⊥) → Answers r xs ys (refused 6 0)

@@ -1,4 +1,4 @@
--- What a lent buffer holds once an answer is written to it (demand 1).
+-- What a lent buffer holds once an answer is written to it (README, demand 1).
 -- Assumes nothing.
 use Prim.Native.Nat.{ℕ}
 use mathlib.Core.List.{List, _++_}

@@ -1,9 +1,11 @@
--- Demand 3 of one kind, over the texts that it admits, the phrase of each, and the grammar's relation between a phrase and its value.
+-- Demand 3 (README): spelling and reading are each other's inverse.
 -- Assumes nothing.
 use Prim.Native.Nat.{ℕ}
 use mathlib.Core.Path.{_≡_}
 use mathlib.Core.List.{List}
 
+-- of one kind: the texts that it admits, the phrase of each, and the grammar's relation between a phrase and its value (01, "Phrase grammar and
+-- reader")
 pub record Readable (Admitted : List ℕ → Type 0) (phrase : List ℕ → List ℕ) (Means : List ℕ → List ℕ → Type 0) : Type 0 where
   -- the phrase of every admitted text is a sentence with that text as its value
   pub spelled : (t : List ℕ) → Admitted t → Means (phrase t) t

@@ -1,6 +1,7 @@
 pub mod Utf8
 pub mod Bank
 pub mod Front
+pub mod Same
 pub mod Four
 pub mod Buffer
 pub mod Join

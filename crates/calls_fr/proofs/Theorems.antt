@@ -11,7 +11,7 @@ use lib.Dec.{ltb}
 use lib.ListN.{length}
 use Rattle.base.specs.Claim.{Readable}
 use Rattle.figures.specs.Text.{value, wellFormed, negative, unsigned, signedText}
-use Rattle.figures.specs.Refusals.{judgeDigits, numberOf}
+use Rattle.figures.specs.Refusals.{judgeDigits, refusalOf}
 use Rattle.figures.proofs.Laws.Digits.{thousand}
 use Rattle.figures.proofs.Laws.Plain.{plain-digits}
 use Rattle.figures.proofs.Laws.Groups.{hold, total-groups}
@@ -29,13 +29,13 @@ clash : {A : Type 0} → false ≡ true → A
 clash e = let z : _≡_ {A = ℕ} 0 1 = cc in absurd (omega arith)
 
 -- what an admitted text is
-pub admitted : (signed : Bool) (xs : List ℕ) → numberOf (judgeDigits signed 102 xs) ≡ 0 → Admitted (wellFormed xs) (negative xs && not signed) (length (unsigned xs)) 102
+pub admitted : (signed : Bool) (xs : List ℕ) → refusalOf (judgeDigits signed 102 xs) ≡ 0 → Admitted (wellFormed xs) (negative xs && not signed) (length (unsigned xs)) 102
 admitted signed xs e = admitted-is (wellFormed xs) (negative xs && not signed) (length (unsigned xs)) 102 (number-zero (judgeDigits signed 102 xs) e)
 
 admits : (signed : Bool) (xs : List ℕ) → wellFormed xs ≡ true → (negative xs && not signed) ≡ false → length (unsigned xs) ≤ 102
-    → numberOf (judgeDigits signed 102 xs) ≡ 0
+    → refusalOf (judgeDigits signed 102 xs) ≡ 0
 admits signed xs f r l =
-    ap numberOf (none-refused {f = wellFormed xs} {r = negative xs && not signed} {size = length (unsigned xs)} {limit = 102} (record { formed = f; sign = r; within = l }))
+    ap refusalOf (none-refused {f = wellFormed xs} {r = negative xs && not signed} {size = length (unsigned xs)} {limit = 102} (record { formed = f; sign = r; within = l }))
 
 signed-fine : (b : Bool) → (b && not true) ≡ false
 signed-fine true = refl

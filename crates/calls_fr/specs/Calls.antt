@@ -7,7 +7,7 @@ use mathlib.Core.List.{List}
 use lib.Dec.{eqb, ltb}
 use Rattle.figures.specs.Text.{value, negative, unsigned, signedText}
 use Rattle.figures.specs.Groups.{groupsOf}
-use Rattle.figures.specs.Refusals.{judgeDigits, numberOf}
+use Rattle.figures.specs.Refusals.{judgeDigits, refusalOf}
 use Rattle.fr.specs.Cardinal.{cardinalPhrase}
 use Rattle.fr.specs.Ordinal.{ordinalPhrase}
 use Rattle.fr.specs.Grammar.{Says, SaysNth}
@@ -27,11 +27,11 @@ settingsRefusal F = cond (inRange F) 0 1
 
 -- 3 or 5 where a number text is refused, else 0 (01, "Number texts": at most 102 digits)
 abbrev pub cardinalRefusal : List ℕ → ℕ
-cardinalRefusal xs = numberOf (judgeDigits true 102 xs)
+cardinalRefusal xs = refusalOf (judgeDigits true 102 xs)
 
 -- 3, 4 or 5 where an ordinal's is refused, else 0: it is not negative
 abbrev pub ordinalRefusal : List ℕ → ℕ
-ordinalRefusal xs = numberOf (judgeDigits false 102 xs)
+ordinalRefusal xs = refusalOf (judgeDigits false 102 xs)
 
 -- none of the conditions 3 to 5 holds of a cardinal's text (01, "Phrase grammar and reader": admitted)
 abbrev pub CardinalAdmitted : List ℕ → Type 0

@@ -13,7 +13,7 @@ use Rattle.base.specs.declared.Answer.{Answer}
 use Rattle.figures.specs.Text.{value, unsigned}
 use Rattle.figures.specs.Groups.{groupsOf, total}
 use Rattle.figures.specs.Money.{wholeText, hundredthsText, moneyText}
-use Rattle.figures.specs.Refusals.{numberOf, judgeMoney}
+use Rattle.figures.specs.Refusals.{refusalOf, judgeMoney}
 use Rattle.figures.specs.declared.Judged.{Judged}
 use Rattle.uk.specs.Settings.{inRange}
 use Rattle.money.specs.Currencies.{Currency}

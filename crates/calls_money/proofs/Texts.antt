@@ -12,8 +12,8 @@ use lib.ListN.{length, getD, take, drop, length-take, length-append}
 use lib.Seq.{take-at, drop-at, getD-append-seam}
 use borrow.Author.Tests.{ne-eqb, eq-eqb, le-leb, leb-true, leb-false}
 use Rattle.figures.specs.Text.{digit, digits, plain, value, negative, unsigned, wellFormed, fixed, text, signedText}
-use Rattle.figures.specs.Money.{pointed, wholeText, hundredthsText, hundredths, moneyFormed, moneyText}
-use Rattle.figures.specs.Refusals.{numberOf, judged, judgeMoney}
+use Rattle.figures.specs.Money.{pointed, wholeText, hundredthsText, hundredths, moneyFormed, moneyText, moneyLimit}
+use Rattle.figures.specs.Refusals.{refusalOf, judged, judgeMoney}
 use Rattle.figures.specs.declared.Judged.the-variants.{Fine}
 use Rattle.figures.proofs.Laws.Digits.{value-lt, digits-at, digit-low}
 use Rattle.figures.proofs.Laws.Plain.{plain-digits, plain-least}
@@ -22,22 +22,21 @@ use Rattle.figures.proofs.Laws.Sign.{unsigned-plain, formed-unsigned, Signed, s
 use Rattle.figures.proofs.Laws.Money.{pointed-size, hundredths-size, money-pointed, money-plain, whole-plain, money-some, money-none}
 use Rattle.figures.proofs.Laws.Refusals.{number-zero, admitted, none-refused}
 use Rattle.figures.proofs.Laws.Round.{money-round}
-use Rattle.money.specs.MoneyGrammar.{limit}
 use Rattle.calls_money.specs.MoneyCalls.{Admitted}
 
 -- what is known of an admitted text
 pub record Parts (t : List ℕ) : Type 0 where
   pub formed : moneyFormed t ≡ true
   pub sign : negative t ≡ false
-  pub within : value (unsigned (wholeText t)) ≤ limit
+  pub within : value (unsigned (wholeText t)) ≤ moneyLimit
 
 pub parts : (t : List ℕ) → Admitted t → Parts t
 parts t e =
-    let a = admitted (moneyFormed t) (negative t) (value (unsigned (wholeText t))) limit (number-zero (judgeMoney t) e) in
+    let a = admitted (moneyFormed t) (negative t) (value (unsigned (wholeText t))) moneyLimit (number-zero (judgeMoney t) e) in
     record { formed = a .formed; sign = a .sign; within = a .within }
 
 pub parts-admitted : (t : List ℕ) → Parts t → Admitted t
-parts-admitted t p = ap numberOf (none-refused {f = moneyFormed t} {r = negative t} {size = value (unsigned (wholeText t))} {limit = limit} (record { formed = p .formed; sign = p .sign; within = p .within }))
+parts-admitted t p = ap refusalOf (none-refused {f = moneyFormed t} {r = negative t} {size = value (unsigned (wholeText t))} {limit = moneyLimit} (record { formed = p .formed; sign = p .sign; within = p .within }))
 
 size-plain : (s : List ℕ) → negative s ≡ false → length s ≡ length (unsigned s)
 size-plain s e = ap length (sym (unsigned-plain s e))
@@ -79,7 +78,7 @@ module _ (t : List ℕ) (p : Parts t) where
       go false e = rw e (omega arith)
 
   -- within the limit there are at most 20 digits
-  few : (w : List ℕ) → plain w ≡ true → value w ≤ limit → length w ≤ 20
+  few : (w : List ℕ) → plain w ≡ true → value w ≤ moneyLimit → length w ≤ 20
   few [] f l = omega arith
   few (b ∷ w) f l = go (leb (length w) 19) refl
     where
@@ -89,7 +88,7 @@ module _ (t : List ℕ) (p : Parts t) where
           let m = leb-false (length w) 19 e in
           let a = plain-least b w f (omega arith) in
           let q : 10 ^ 20 ≤ 10 ^ length w = pow-le-pow-right {n = 10} (omega arith) {i = 20} {j = length w} (omega arith) in
-          let z : limit < 10 ^ 20 = lit< tt in
+          let z : moneyLimit < 10 ^ 20 = lit< tt in
           absurd (omega (arith, le-trans q (le-trans a l), z))
 
   short : length t ≤ 102
@@ -106,7 +105,7 @@ module _ (t : List ℕ) (p : Parts t) where
   parts-text = money-round t (p .formed) (p .sign) short
 
 -- the text of a whole part and hundredths
-module _ (w h : ℕ) (l : w ≤ limit) (k : h < 100) where
+module _ (w h : ℕ) (l : w ≤ moneyLimit) (k : h < 100) where
   signed : Signed false w 102 (text w)
   signed = signed-text false w 102 (omega arith) (omega arith) (lt-of-le-of-lt l (lit< tt)) (λ e. let z : _≡_ {A = ℕ} 0 1 = cc in absurd (omega arith))
 

@@ -1,11 +1,12 @@
-// Ukrainian money from bytes to bytes, both ways: settings, code, text, sign, size and room are checked in 01's order.
+// Ukrainian money from bytes to bytes, both ways: settings, code, text, sign, size and room are checked in 01's order. No phrase has more than
+// 12,320 bytes: the program keeps that much room for an answer.
 use base::Answer;
 use read_money::Seen;
 use uk::Settings;
 ghost use Prim.Native.Nat.{_≤_, _<_};
 ghost use Rattle.base.specs.Answer.{fitted, replied, Answers, Reads as ReadsAs, ReadsUnless};
 ghost use Rattle.money.specs.Currencies.{currencyAt};
-ghost use Rattle.money.specs.Codes.{placeOf};
+ghost use Rattle.money.specs.Codes.{currencyOf};
 ghost use Rattle.calls_money.specs.MoneyCalls.{Admitted, refusedCode, refusedAmount, moneyPhrase, Means};
 
 // The phrase of an admitted text: planned, measured, written.
@@ -48,7 +49,7 @@ pub fn to_currency(
     text: &[u8],
     out: &mut [u8],
 ) -> Answer
-    ensures { λ r. ⌜ Answers r (now (out .entry)) (now (out .exit)) (replied (refusedAmount gender number case (now (code .entry)) (now (text .entry))) (moneyPhrase (currencyAt (placeOf (now (code .entry)))) case (now (text .entry))) (now (out .entry))) ⌝ }
+    ensures { λ r. ⌜ Answers r (now (out .entry)) (now (out .exit)) (replied (refusedAmount gender number case (now (code .entry)) (now (text .entry))) (moneyPhrase (currencyOf (now (code .entry))) case (now (text .entry))) (now (out .entry))) ⌝ }
     ensures { λ r. ⌜ r .length ≤ 12320 ⌝ }
 {
     if uk::in_range(gender, number, case) {
@@ -84,7 +85,7 @@ pub fn from_currency(
     said: &[u8],
     out: &mut [u8],
 ) -> Answer
-    ensures { λ r. ⌜ ReadsUnless (refusedCode gender number case (now (code .entry))) (Means (currencyAt (placeOf (now (code .entry)))) case) (now (said .entry)) r (now (out .entry)) (now (out .exit)) ⌝ }
+    ensures { λ r. ⌜ ReadsUnless (refusedCode gender number case (now (code .entry))) (Means (currencyOf (now (code .entry))) case) (now (said .entry)) r (now (out .entry)) (now (out .exit)) ⌝ }
 {
     if uk::in_range(gender, number, case) {
         let currency = money::code_of(code);

@@ -22,13 +22,13 @@ use Rattle.figures.proofs.Laws.Plain.{plain-digits, plain-least, plain-some}
 use Rattle.figures.proofs.Laws.Sign.{unsigned-plain, formed-unsigned}
 use Rattle.figures.proofs.Laws.Groups.{groups-length, groups-at}
 use Rattle.figures.proofs.Laws.Refusals.{number-zero, admitted}
-use Rattle.uk.specs.Settings.{inRange}
+use Rattle.uk.specs.Settings.{inRange, unlessSettings}
 use Rattle.uk.proofs.Ranges.{ranges}
 use Rattle.base.specs.Join.{joined}
 use Rattle.ordinal.specs.Ordinal.{ordinalWords}
 use Rattle.ordinal.specs.Year.{early, yearWords}
-use Rattle.spell_ordinal.specs.Groups.{Groups}
-use Rattle.calls_ordinal.specs.Calls.{unlessSettings, ordinalText, digitOrdinalText, ordinalPhrase, yearPhrase}
+use Rattle.spell_ordinal.specs.Groups.{Groups22}
+use Rattle.calls_ordinal.specs.Calls.{refusedOrdinal, refusedDigitOrdinal, ordinalPhrase, yearPhrase}
 
 -- neither the settings nor the text are refused
 pub unrefused : (g n c m : ℕ) → unlessSettings g n c m ≡ 0 → ((g < 3) × (n < 2) × (c < 6)) × (m ≡ 0)
@@ -42,7 +42,7 @@ unrefused g n c m e = go (inRange g n c) refl e
 plain-text : (xs : List ℕ) → wellFormed xs ≡ true → negative xs ≡ false → plain xs ≡ true
 plain-text xs f n = sym (ap plain (unsigned-plain xs n)) ∙ formed-unsigned xs f
 
-pub ordinal-digits : (xs : List ℕ) → ordinalText xs ≡ 0 → digits xs ≡ true
+pub ordinal-digits : (xs : List ℕ) → refusedOrdinal xs ≡ 0 → digits xs ≡ true
 ordinal-digits xs e =
     let a = admitted (wellFormed xs) (negative xs && not false) (length (unsigned xs)) 66 (number-zero (judgeDigits false 66 xs) e) in
     plain-digits xs (plain-text xs (a .formed) (unsigned-too (negative xs) (a .sign)))
@@ -62,7 +62,7 @@ few (b ∷ bs) p h = go (decLt (length bs) 39)
         let m : 10 ^ 39 ≤ 10 ^ length bs = pow-le-pow-right {n = 10} (omega arith) k in
         absurd (lt-irrefl (value (b ∷ bs)) (lt-of-lt-of-le h (le-trans m (plain-least b bs p (omega arith)))))
 
-pub digit-ordinal-digits : (xs : List ℕ) → digitOrdinalText xs ≡ 0 → (digits xs ≡ true) × (0 < length xs) × (length xs ≤ 39)
+pub digit-ordinal-digits : (xs : List ℕ) → refusedDigitOrdinal xs ≡ 0 → (digits xs ≡ true) × (0 < length xs) × (length xs ≤ 39)
 digit-ordinal-digits xs e =
     let a = admitted (wellFormed xs) (negative xs) (value (unsigned xs)) 340282366920938463463374607431768211455 (number-zero (judgeDigitOrdinal xs) e) in
     let p = plain-text xs (a .formed) (a .sign) in
@@ -70,7 +70,7 @@ digit-ordinal-digits xs e =
     (plain-digits xs p, plain-some xs p, few xs p (lt-of-le-of-lt w (lit< tt)))
 
 -- the groups of a number are groups
-pub groups : (n : ℕ) → Groups (groupsOf 22 n)
+pub groups : (n : ℕ) → Groups22 (groupsOf 22 n)
 groups n = record { count = groups-length 22 n; below = λ i. go i (decLt i 22) }
   where
     go : (i : ℕ) → Dec (i < 22) → getD (groupsOf 22 n) i 0 < 1000

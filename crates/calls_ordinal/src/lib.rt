@@ -1,4 +1,5 @@
-// Ukrainian ordinals, digit ordinals and years from bytes to bytes.
+// Ukrainian ordinals, digit ordinals and years from bytes to bytes. No phrase has more than 12,320 bytes: the program keeps that much room for an
+// answer.
 mod digits; // digits.rt: digit ordinals
 
 use base::Answer;
@@ -8,9 +9,10 @@ ghost use mathlib.Core.Bool.{true};
 ghost use Prim.Native.Nat.{_≤_, _<_};
 ghost use Rattle.base.specs.Answer.{fitted, replied, Answers};
 ghost use Rattle.figures.specs.Text.{digits as digitsOf};
+ghost use Rattle.uk.specs.Settings.{unlessSettings};
 ghost use Rattle.ordinal.specs.DigitOrdinal.{digitOrdinal};
 ghost use Rattle.ordinal.specs.Year.{early};
-ghost use Rattle.calls_ordinal.specs.Calls.{unlessSettings, ordinalText, digitOrdinalText, ordinalPhrase, yearPhrase};
+ghost use Rattle.calls_ordinal.specs.Calls.{refusedOrdinal, refusedDigitOrdinal, ordinalPhrase, yearPhrase};
 
 // Whether a year is 0 or below.
 fn is_early(year: i64) -> bool
@@ -21,7 +23,7 @@ fn is_early(year: i64) -> bool
 
 // The refusal of an ordinal's settings and text, 0 for none.
 fn refuse_ordinal(gender: u32, number: u32, case: u32, text: &[u8]) -> u32
-    ensures { λ r. ⌜ r ≡ unlessSettings gender number case (ordinalText (now (text .entry))) ⌝ }
+    ensures { λ r. ⌜ r ≡ unlessSettings gender number case (refusedOrdinal (now (text .entry))) ⌝ }
 {
     if uk::in_range(gender, number, case) {
         figures::refusals::number_of(figures::refusals::judge(text, false, 66))
@@ -32,7 +34,7 @@ fn refuse_ordinal(gender: u32, number: u32, case: u32, text: &[u8]) -> u32
 
 // The refusal of a digit ordinal's settings and text, 0 for none.
 fn refuse_digit_ordinal(gender: u32, number: u32, case: u32, text: &[u8]) -> u32
-    ensures { λ r. ⌜ r ≡ unlessSettings gender number case (digitOrdinalText (now (text .entry))) ⌝ }
+    ensures { λ r. ⌜ r ≡ unlessSettings gender number case (refusedDigitOrdinal (now (text .entry))) ⌝ }
 {
     if uk::in_range(gender, number, case) {
         figures::refusals::number_of(figures::refusals::judge_digit_ordinal(text))
@@ -68,7 +70,7 @@ fn say_year(settings: Settings, year: i64, out: &mut [u8]) -> Answer
 
 // The ordinal of a number text.
 pub fn to_ordinal(gender: u32, number: u32, case: u32, text: &[u8], out: &mut [u8]) -> Answer
-    ensures { λ r. ⌜ Answers r (now (out .entry)) (now (out .exit)) (replied (unlessSettings gender number case (ordinalText (now (text .entry)))) (ordinalPhrase gender number case (now (text .entry))) (now (out .entry))) ⌝ }
+    ensures { λ r. ⌜ Answers r (now (out .entry)) (now (out .exit)) (replied (unlessSettings gender number case (refusedOrdinal (now (text .entry)))) (ordinalPhrase gender number case (now (text .entry))) (now (out .entry))) ⌝ }
     ensures { λ r. ⌜ r .length ≤ 12320 ⌝ }
 {
     let n = refuse_ordinal(gender, number, case, text);
@@ -84,7 +86,7 @@ pub fn to_ordinal(gender: u32, number: u32, case: u32, text: &[u8], out: &mut [u
 
 // The digit ordinal of a number text.
 pub fn to_ordinal_num(gender: u32, number: u32, case: u32, text: &[u8], out: &mut [u8]) -> Answer
-    ensures { λ r. ⌜ Answers r (now (out .entry)) (now (out .exit)) (replied (unlessSettings gender number case (digitOrdinalText (now (text .entry)))) (digitOrdinal gender number case (now (text .entry))) (now (out .entry))) ⌝ }
+    ensures { λ r. ⌜ Answers r (now (out .entry)) (now (out .exit)) (replied (unlessSettings gender number case (refusedDigitOrdinal (now (text .entry)))) (digitOrdinal gender number case (now (text .entry))) (now (out .entry))) ⌝ }
     ensures { λ r. ⌜ r .length ≤ 12320 ⌝ }
 {
     let n = refuse_digit_ordinal(gender, number, case, text);

@@ -7,7 +7,7 @@ use mathlib.Core.List.{List}
 use native.Mathlib.Omega.{arith}
 use lib.ListN.{length}
 use Rattle.figures.specs.Text.{negative, unsigned, wellFormed}
-use Rattle.figures.specs.Refusals.{numberOf, judgeDigits}
+use Rattle.figures.specs.Refusals.{refusalOf, judgeDigits}
 use Rattle.figures.proofs.Laws.Refusals.{number-zero, admitted, none-refused}
 use Rattle.uk.specs.Settings.{inRange}
 use Rattle.uk.proofs.Ranges.{ranges}
@@ -24,7 +24,7 @@ never false = refl
 
 pub admitted-text : (t : List ℕ) → wellFormed t ≡ true → length (unsigned t) ≤ 66 → Admitted t
 admitted-text t f l =
-    ap numberOf (none-refused {f = wellFormed t} {r = negative t && not true} {size = length (unsigned t)} {limit = 66} (record { formed = f; sign = never (negative t); within = l }))
+    ap refusalOf (none-refused {f = wellFormed t} {r = negative t && not true} {size = length (unsigned t)} {limit = 66} (record { formed = f; sign = never (negative t); within = l }))
 
 -- what no refusal tells
 pub to-admitted : (g n c : ℕ) (t : List ℕ) → refusedCardinal g n c t ≡ 0 → (g < 3) × (c < 6) × (wellFormed t ≡ true) × (length (unsigned t) ≤ 66)

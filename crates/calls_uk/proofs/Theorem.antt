@@ -9,7 +9,6 @@ use lib.Dec.{eqb}
 use lib.ListN.{length}
 use Rattle.base.specs.Join.{joined}
 use Rattle.base.specs.Claim.{Readable}
-use Rattle.tables.proofs.Tests.{same, same-is}
 use Rattle.figures.specs.Text.{value, negative, unsigned, wellFormed, signedText}
 use Rattle.figures.specs.Groups.{groupsOf}
 use Rattle.figures.proofs.Laws.Digits.{thousand}

@@ -1,4 +1,4 @@
-// Ukrainian cardinals from bytes to bytes, both ways.
+// Ukrainian cardinals from bytes to bytes, both ways. No phrase has more than 12,320 bytes: the program keeps that much room for an answer.
 use base::Answer;
 use read_uk::Seen;
 use uk::Settings;

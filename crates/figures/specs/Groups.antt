@@ -1,4 +1,5 @@
--- A number as groups of three decimal digits, the lowest first (01, "Number texts": 22 groups, 34 groups).
+-- A number as groups of three decimal digits, the lowest first (01, "From the repository, and added": `split_thousands`; "Number texts": 22
+-- groups, 34 groups).
 -- Assumes nothing.
 use Prim.Native.Nat.{ℕ, zero, suc, _+_, _*_, _/_, _%_, _<_}
 use mathlib.Core.List.{List, [], _∷_}

@@ -27,6 +27,10 @@ hundredths xs = digits xs && not (eqb (value xs) 0)
 abbrev pub moneyFormed : List ℕ → Bool
 moneyFormed xs = cond (pointed xs) (plain (unsigned (wholeText xs)) && hundredths (hundredthsText xs)) (wellFormed xs)
 
--- the money text of w and h hundredths, h below 100
+-- the money text of w and h hundredths, h below 100 ("Phrase grammar and reader": "whole part and hundredths as a money text")
 abbrev pub moneyText : ℕ → ℕ → List ℕ
 moneyText w h = text w ++ cond (eqb h 0) [] (46 ∷ fixed 2 h)
+
+-- the largest whole part: "at most 18,446,744,073,709,551,615"
+abbrev pub moneyLimit : ℕ
+moneyLimit = 18446744073709551615

@@ -6,23 +6,23 @@ use mathlib.Core.List.{List}
 use lib.Dec.{ltb}
 use lib.ListN.{length}
 use Rattle.figures.specs.Text.{value, negative, unsigned, wellFormed}
-use Rattle.figures.specs.Money.{wholeText, moneyFormed}
+use Rattle.figures.specs.Money.{wholeText, moneyFormed, moneyLimit}
 use Rattle.figures.specs.Year.{yearLimit}
 use Rattle.figures.specs.declared.Judged.{Judged}
 use Rattle.figures.specs.declared.Judged.the-variants.{Fine, Malformed, Negative, Large}
 
 -- the number of each refusal in 01's table, 0 for none
-abbrev pub numberOf : Judged → ℕ
-numberOf Fine = 0
-numberOf Malformed = 3
-numberOf Negative = 4
-numberOf Large = 5
+abbrev pub refusalOf : Judged → ℕ
+refusalOf Fine = 0
+refusalOf Malformed = 3
+refusalOf Negative = 4
+refusalOf Large = 5
 
 -- "the first that applies is given": malformed, a sign that is refused, above the limit
 abbrev pub judged : Bool → Bool → Bool → Judged
 judged malformed refused above = cond malformed Malformed (cond refused Negative (cond above Large Fine))
 
--- a cardinal or an ordinal, of "at most 66 digits" in Ukrainian and 102 in French; "Ordinals and money: not negative"
+-- a cardinal, which may be signed, or an ordinal, which is "not negative"; of at most so many digits, 66 in Ukrainian and 102 in French
 abbrev pub judgeDigits : Bool → ℕ → List ℕ → Judged
 judgeDigits signed most xs = judged (not (wellFormed xs)) (negative xs && not signed) (ltb most (length (unsigned xs)))
 
@@ -30,9 +30,9 @@ judgeDigits signed most xs = judged (not (wellFormed xs)) (negative xs && not si
 abbrev pub judgeDigitOrdinal : List ℕ → Judged
 judgeDigitOrdinal xs = judged (not (wellFormed xs)) (negative xs) (ltb 340282366920938463463374607431768211455 (value (unsigned xs)))
 
--- an amount: "whole part at most 18,446,744,073,709,551,615"
+-- an amount, by its whole part
 abbrev pub judgeMoney : List ℕ → Judged
-judgeMoney xs = judged (not (moneyFormed xs)) (negative xs) (ltb 18446744073709551615 (value (unsigned (wholeText xs))))
+judgeMoney xs = judged (not (moneyFormed xs)) (negative xs) (ltb moneyLimit (value (unsigned (wholeText xs))))
 
 -- a year as text ("The program phrases": "A malformed year is refused 3, one beyond 64 signed bits 5")
 abbrev pub judgeYear : List ℕ → Judged

@@ -11,11 +11,11 @@ ghost use mathlib.Core.Path.{_≡_};
 ghost use mathlib.Core.Bool.{true, not};
 ghost use lib.Dec.{leb, ltb};
 ghost use Rattle.figures.specs.Text.{plain, value};
-ghost use Rattle.figures.specs.Refusals.{numberOf, judged, judgeDigits, judgeDigitOrdinal, judgeMoney, judgeYear};
+ghost use Rattle.figures.specs.Refusals.{refusalOf, judged, judgeDigits, judgeDigitOrdinal, judgeMoney, judgeYear};
 
 // 01's number of what is refused, 0 for nothing.
 pub fn number_of(j: Judged) -> u32
-    ensures { λ r. ⌜ r ≡ numberOf j ⌝ }
+    ensures { λ r. ⌜ r ≡ refusalOf j ⌝ }
 {
     match j {
         Judged::Fine => 0,
@@ -51,7 +51,7 @@ pub fn judge(s: &[u8], signed: bool, most: usize) -> Judged
 }
 
 // Whether s means at most what l means.
-pub fn at_most(s: &[u8], l: &[u8]) -> bool
+fn at_most(s: &[u8], l: &[u8]) -> bool
     requires { ⌜ plain (now s) ≡ true ⌝ }
     requires { ⌜ plain (now l) ≡ true ⌝ }
     ensures { λ r. ⌜ r ≡ leb (value (now (s .entry))) (value (now (l .entry))) ⌝ }
@@ -90,7 +90,7 @@ fn limited(formed: bool, refused: bool, w: &[u8], l: &[u8]) -> Judged
     }
 }
 
-// What is refused of a digit ordinal's text. Digits have no sign, so that a sign is looked for in other texts alone.
+// What is refused of a digit ordinal's text. A plain text has no sign; a well formed one that is not plain has one, so no sign is looked for.
 pub fn judge_digit_ordinal(s: &[u8]) -> Judged
     ensures { λ r. ⌜ r ≡ judgeDigitOrdinal (now (s .entry)) ⌝ }
 {

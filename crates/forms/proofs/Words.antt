@@ -12,7 +12,9 @@ use lib.ListN.{length, getD, take, drop, drop-of-length-le, length-drop}
 use lib.Seq.{drop-cons, drop-drop, take-all, take-length}
 use Rattle.bytes.specs.Bytes.{indexOf, indexAfter, slice}
 use Rattle.base.specs.Front.{begins}
-use Rattle.forms.specs.Line.{first, rest, same, free, run, closed, inner}
+use Rattle.base.specs.Same.{sameText}
+use Rattle.base.proofs.Fronts.{and-false}
+use Rattle.forms.specs.Line.{first, rest, free, run, closed, inner}
 
 -- the first space of a line
 pub whole : (s : List ℕ) → slice 0 (length s) s ≡ s
@@ -71,21 +73,11 @@ module _ (s t : List ℕ) (p e n : ℕ) (h : p ≤ length s) (d : drop p s ≡ t
   near c = let k : n ≤ length (drop p s) = rw (take-all (length s - p) (drop p s) (rw length-drop (omega arith))) at c in omega (arith, rw length-drop at k)
 
 -- a name is known by its length and its front
-pub same-front : (w s : List ℕ) → length s ≡ length w → begins w s ≡ same w s
+pub same-front : (w s : List ℕ) → length s ≡ length w → begins w s ≡ sameText w s
 same-front [] [] e = refl
 same-front [] (c ∷ s) e = absurd (omega arith)
 same-front (b ∷ w) [] e = absurd (omega arith)
 same-front (b ∷ w) (c ∷ s) e = ap (λ (t : Bool). eqb b c && t) (same-front w s (omega arith))
-
-and-false : (b : Bool) → false ≡ (b && false)
-and-false true = refl
-and-false false = refl
-
-pub other-length : (w s : List ℕ) → (length s ≡ length w → ⊥) → false ≡ same w s
-other-length [] [] e = absurd (e refl)
-other-length [] (c ∷ s) e = refl
-other-length (b ∷ w) [] e = refl
-other-length (b ∷ w) (c ∷ s) e = rw (sym (other-length w s (λ (h : length s ≡ length w). e (omega arith)))) (and-false (eqb b c))
 
 -- the place among two names, and one name more
 module _ (a b : Bool) (k p : ℕ) (e : p ≡ cond a 0 (cond b 1 2)) where
@@ -179,4 +171,4 @@ pub closed-on : (s : List ℕ) → getD s (length s - 1) 0 ≡ 41 → run (inner
 closed-on s e = rw (eq-eqb (getD s (length s - 1) 0) 41 e) (and-true (run (inner s)))
 
 pub closed-off : (s : List ℕ) → (getD s (length s - 1) 0 ≡ 41 → ⊥) → false ≡ closed s
-closed-off s e = rw (ne-eqb (getD s (length s - 1) 0) 41 e) (and-false (run (inner s)))
+closed-off s e = rw (ne-eqb (getD s (length s - 1) 0) 41 e) (sym (and-false (run (inner s))))

@@ -2,12 +2,13 @@
 -- Assumes nothing.
 use Prim.Native.Nat.{ℕ, suc, _-_}
 use Prim.Native.String.{String}
-use mathlib.Core.Bool.{Bool, true, false, cond, not, _&&_}
+use mathlib.Core.Bool.{Bool, true, cond, not, _&&_}
 use mathlib.Core.List.{List, [], _∷_}
 use lib.Dec.{eqb}
 use lib.ListN.{length, getD, take}
 use Rattle.base.specs.Join.{Word}
 use Rattle.base.specs.Utf8.{utf8}
+use Rattle.base.specs.Same.{sameText}
 use Rattle.forms.specs.declared.Kind.{Kind}
 use Rattle.forms.specs.declared.Kind.the-variants.{Card, Ord, Num, Year, Money, Other}
 use Rattle.forms.specs.declared.Language.{Language}
@@ -23,30 +24,23 @@ unfoldable pub rest : List ℕ → List ℕ
 rest [] = []
 rest (b ∷ s) = cond (eqb b 32) s (rest s)
 
--- whether two words are the same bytes
-abbrev pub same : Word → Word → Bool
-same [] [] = true
-same [] (c ∷ w) = false
-same (b ∷ v) [] = false
-same (b ∷ v) (c ∷ w) = eqb b c && same v w
-
 -- the place of a word among names, from 0 on; how many they are where it is none of them
 abbrev pub placeIn : List String → Word → ℕ
 placeIn [] w = 0
-placeIn (n ∷ ns) w = cond (same (utf8 n) w) 0 (suc (placeIn ns w))
+placeIn (n ∷ ns) w = cond (sameText (utf8 n) w) 0 (suc (placeIn ns w))
 
 -- "Kinds: card, ord, num, year, money", with the bracket that opens the form
 unfoldable pub kindOf : Word → Kind
 kindOf w =
-    cond (same (utf8 "(card") w) Card
-    (cond (same (utf8 "(ord") w) Ord
-    (cond (same (utf8 "(num") w) Num
-    (cond (same (utf8 "(year") w) Year
-    (cond (same (utf8 "(money") w) Money Other))))
+    cond (sameText (utf8 "(card") w) Card
+    (cond (sameText (utf8 "(ord") w) Ord
+    (cond (sameText (utf8 "(num") w) Num
+    (cond (sameText (utf8 "(year") w) Year
+    (cond (sameText (utf8 "(money") w) Money Other))))
 
 -- the language, with the bracket that opens the settings
 unfoldable pub languageOf : Word → Language
-languageOf w = cond (same (utf8 "(uk") w) Ukrainian (cond (same (utf8 "(fr") w) French Neither)
+languageOf w = cond (sameText (utf8 "(uk") w) Ukrainian (cond (sameText (utf8 "(fr") w) French Neither)
 
 -- "`(uk m sing nom)` with m f n, sing plur, nom gen dat acc ins loc": 01's setting numbers, out of range for any other word; the gender
 unfoldable pub genderOf : Word → ℕ

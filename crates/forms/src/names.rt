@@ -3,11 +3,12 @@ use super::Kind;
 use super::Language;
 ghost use mathlib.Core.Path.{_≡_};
 ghost use mathlib.Core.Bool.{cond};
-ghost use Rattle.forms.specs.Line.{same as sameAs, kindOf, languageOf, genderOf, grammaticalNumberOf, caseOf, feminineOf, reformedOf, regionOf};
+ghost use Rattle.base.specs.Same.{sameText};
+ghost use Rattle.forms.specs.Line.{kindOf, languageOf, genderOf, grammaticalNumberOf, caseOf, feminineOf, reformedOf, regionOf};
 
 // Whether s is w.
 fn is(s: &[u8], w: &[u8]) -> bool
-    ensures { λ r. ⌜ r ≡ sameAs (now (w .entry)) (now (s .entry)) ⌝ }
+    ensures { λ r. ⌜ r ≡ sameText (now (w .entry)) (now (s .entry)) ⌝ }
 {
     if s.len() == w.len() {
         base::front(w, s)
@@ -53,7 +54,7 @@ pub fn language_of(s: &[u8]) -> Language
 
 // The place of s among two names.
 fn place2(s: &[u8], a: &[u8], b: &[u8]) -> u32
-    ensures { λ r. ⌜ r ≡ cond (sameAs (now (a .entry)) (now (s .entry))) 0 (cond (sameAs (now (b .entry)) (now (s .entry))) 1 2) ⌝ }
+    ensures { λ r. ⌜ r ≡ cond (sameText (now (a .entry)) (now (s .entry))) 0 (cond (sameText (now (b .entry)) (now (s .entry))) 1 2) ⌝ }
 {
     if is(s, a) {
         0
@@ -66,7 +67,7 @@ fn place2(s: &[u8], a: &[u8], b: &[u8]) -> u32
 
 // The place of s among three names.
 fn place3(s: &[u8], a: &[u8], b: &[u8], c: &[u8]) -> u32
-    ensures { λ r. ⌜ r ≡ cond (sameAs (now (a .entry)) (now (s .entry))) 0 (cond (sameAs (now (b .entry)) (now (s .entry))) 1 (cond (sameAs (now (c .entry)) (now (s .entry))) 2 3)) ⌝ }
+    ensures { λ r. ⌜ r ≡ cond (sameText (now (a .entry)) (now (s .entry))) 0 (cond (sameText (now (b .entry)) (now (s .entry))) 1 (cond (sameText (now (c .entry)) (now (s .entry))) 2 3)) ⌝ }
 {
     let p = place2(s, a, b);
     if p < 2 {

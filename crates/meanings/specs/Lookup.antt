@@ -14,6 +14,6 @@ unfoldable pub lookup : ℕ → Entries → ℕ
 lookup key [] = 0
 lookup key (e ∷ es) = cond (eqb key (e .0)) (e .1) (lookup key es)
 
--- the same where keys have places, by their rest at a number: in the tables, or, if another key has the place, in a list
+-- the same by tables: a key's place is its remainder by the number of slots; a key that found its place taken stands in the list of others
 unfoldable pub lookupIn : ℕ → Entries → Entries → Entries → ℕ → ℕ
 lookupIn slots keys values others key = cond (eqb (lookup (key % slots) keys) key) (lookup (key % slots) values) (lookup key others)

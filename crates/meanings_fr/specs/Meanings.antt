@@ -1,11 +1,12 @@
--- What the words of the French numbers mean, by their keys: 1 to 999 a number, 1000 and more a scale word of that order, 2001 minus, 0 nothing.
+-- What the words of the French numbers mean, by their keys: 1 to 999 a number,
+-- 1000 and more a scale word of that order, 2001 minus, 0 nothing.
 -- What a reader makes of these is held against the grammar's own words afterwards, so nothing here has to be believed.
 -- Assumes nothing.
 use Prim.Native.Nat.{ℕ}
-use mathlib.Core.List.{List, [], _∷_}
+use mathlib.Core.List.{[], _∷_}
 use Rattle.meanings.specs.Lookup.{Entries, lookupIn}
 
--- the keys that have a place in the tables, by their rest at 256
+-- the keys that have a place in the tables, by their remainder by 256
 unfoldable pub keys : Entries
 keys =
     (254, 18942) ∷ (253, 43517) ∷ (252, 5372) ∷ (249, 36601) ∷ (247, 33271) ∷ (244, 2548) ∷ (242, 10738) ∷

@@ -1,11 +1,12 @@
--- What the words of the Ukrainian numbers mean, by their keys: 1 to 999 a number, 1000 and more a scale word of that order (zero's word closes a group of order 0), 2001 minus, 0 nothing.
+-- What the words of the Ukrainian numbers mean, by their keys: 1 to 999 a number,
+-- 1000 and more a scale word of that order (zero's word closes a group of order 0), 2001 minus, 0 nothing.
 -- What a reader makes of these is held against the grammar's own words afterwards, so nothing here has to be believed.
 -- Assumes nothing.
 use Prim.Native.Nat.{ℕ}
-use mathlib.Core.List.{List, [], _∷_}
+use mathlib.Core.List.{[], _∷_}
 use Rattle.meanings.specs.Lookup.{Entries, lookupIn}
 
--- the keys that have a place in the tables, by their rest at 512
+-- the keys that have a place in the tables, by their remainder by 512
 unfoldable pub keys : Entries
 keys =
     (508, 29180) ∷ (507, 17403) ∷ (503, 65015) ∷ (502, 26614) ∷ (499, 37875) ∷ (495, 12783) ∷ (494, 55790) ∷

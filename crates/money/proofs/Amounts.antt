@@ -10,6 +10,7 @@ use borrow.Author.Tests.{eqb-true, eqb-false, eq-eqb, ne-eqb}
 use lib.Dec.{eqb, lit<, lit≤}
 use lib.ListN.{getD}
 use Rattle.base.specs.Join.{Word}
+use Rattle.figures.specs.Money.{moneyLimit}
 use Rattle.uk.specs.Rules.{Words}
 use Rattle.uk.specs.Ukrainian.{ukrainian, agreedNumber, agreedCase}
 use Rattle.uk.specs.Cardinal.{groupsBelow, cardinalWords}
@@ -19,7 +20,7 @@ use Rattle.uk.proofs.Unique.{falling-below, one-phrase}
 use Rattle.money.specs.Nouns.{Name, nameForms}
 use Rattle.money.specs.Currencies.{Currency}
 use Rattle.money.specs.Money.{agreedName, countWords, moneyWords}
-use Rattle.money.specs.MoneyGrammar.{limit, Counted, counted, Amount, whole, hundredths, both}
+use Rattle.money.specs.MoneyGrammar.{Counted, counted, Amount, whole, hundredths, both}
 
 -- gs has the groups of n
 abbrev pub Holds : ℕ → List ℕ → Type 0
@@ -32,7 +33,7 @@ holds-low h l (suc k) i =
     let p : 1000 ≤ 1000 ^ suc k = pow-le-pow-right {n = 1000} (omega arith) {i = 1} {j = suc k} (omega arith) in
     sym (ap (λ (x : ℕ). x % 1000) (div-eq-of-lt (lt-of-lt-of-le l p)))
 
-pub within-below : {n : ℕ} → n ≤ limit → n < 1000 ^ 22
+pub within-below : {n : ℕ} → n ≤ moneyLimit → n < 1000 ^ 22
 within-below l = lt-of-le-of-lt l (lit< tt)
 
 -- cardinals
@@ -91,7 +92,7 @@ module _ (name : Name) (case : ℕ) where
 
 -- amounts
 module _ (c : Currency) (case : ℕ) where
-  pub amount-says : (n h : ℕ) (gs : List ℕ) → Holds n gs → n ≤ limit → h < 100 → Amount c case (moneyWords c case (eqb n 0) gs h) n h
+  pub amount-says : (n h : ℕ) (gs : List ℕ) → Holds n gs → n ≤ moneyLimit → h < 100 → Amount c case (moneyWords c case (eqb n 0) gs h) n h
   unfolding moneyWords
   amount-says n zero gs g l k = whole (count-says (c .main) case n gs g (within-below l)) l
   amount-says n (suc h) gs g l k = go (eqb n 0) refl
@@ -101,7 +102,7 @@ module _ (c : Currency) (case : ℕ) where
       go false e =
           both (rw e at (count-says (c .main) case n gs g (within-below l))) (omega (arith, eqb-false n 0 e)) l (low-says (c .fraction) case h k) (omega arith) k
 
-  pub amount-is : {ws : List Word} {n h : ℕ} → Amount c case ws n h → (n ≤ limit) × (h < 100) × ((gs : List ℕ) → Holds n gs → ws ≡ moneyWords c case (eqb n 0) gs h)
+  pub amount-is : {ws : List Word} {n h : ℕ} → Amount c case ws n h → (n ≤ moneyLimit) × (h < 100) × ((gs : List ℕ) → Holds n gs → ws ≡ moneyWords c case (eqb n 0) gs h)
   unfolding moneyWords
   amount-is (whole s l) = (l, omega arith, λ gs g. count-is (c .main) case s gs g)
   amount-is (hundredths {h = zero} s p k) = absurd (omega arith)

@@ -2,15 +2,16 @@
 -- money"): one test over the whole table. Reading rests on it.
 -- Assumes nothing.
 use Prim.Native.Nat.{ℕ, _+_, _*_, _/_, _%_, _<_}
-use mathlib.Core.Path.{_≡_, refl, sym, ap, _∙_}
-use mathlib.Core.Bool.{Bool, true, false, not}
-use mathlib.Core.List.{List, [], _∷_, map}
+use mathlib.Core.Path.{_≡_, refl, sym, _∙_}
+use mathlib.Core.Bool.{Bool, true, not}
 use native.Mathlib.Omega.{arith}
-use borrow.Author.Tests.{not-true, eq-eqb}
+use borrow.Author.Tests.{not-true}
 use lib.ListN.{getD}
 use Rattle.base.specs.Join.{Word, joined}
 use Rattle.base.specs.Utf8.{form2}
-use Rattle.tables.proofs.Tests.{all, all-at, same, clash}
+use Rattle.base.specs.Same.{sameText}
+use Rattle.base.proofs.Same.{same-not}
+use Rattle.tables.proofs.Tests.{all, all-at}
 use Rattle.money.specs.NounTables.{noun2stGroupHardDeclensions, noun2stGroupSoftDeclensions, noun1stGroupSoftDeclensionsVowel, noun1stGroupHardDeclensions, adjectiveHardMasculine, hryvnias, kopiykas}
 use Rattle.money.specs.Nouns.{Name, endings, formOf, nameForms}
 use Rattle.money.specs.Currencies.{currencies, currencyAt}
@@ -22,15 +23,11 @@ formAt name p = joined (nameForms name (p / 6) (p % 6))
 
 differ : ℕ → ℕ → ℕ → Bool
 unfolding formAt currencies
-differ i p q = not (same (formAt (currencyAt i .main) p) (formAt (currencyAt i .fraction) q))
+differ i p q = not (sameText (formAt (currencyAt i .main) p) (formAt (currencyAt i .fraction) q))
 
 all-differ : all 0 44 (λ i. all 0 12 (λ p. all 0 12 (differ i p))) ≡ true
 unfolding differ
 all-differ = refl
-
-same-self : (s : List ℕ) → same s s ≡ true
-same-self [] = refl
-same-self (b ∷ s) = rw (eq-eqb b b refl) (same-self s)
 
 pub no-form-in-common : (i n c m d : ℕ) → i < 44 → n < 2 → c < 6 → m < 2 → d < 6
     → joined (nameForms (currencyAt i .main) n c) ≡ joined (nameForms (currencyAt i .fraction) m d) → ⊥
@@ -43,7 +40,7 @@ no-form-in-common i n c m d h hn hc hm hd e =
     (omega arith) (omega arith) in
     let a : joined (nameForms (currencyAt i .main) n c) ≡ formAt (currencyAt i .main) p = rw (ediv n c hc, emod n c hc) refl in
     let b : joined (nameForms (currencyAt i .fraction) m d) ≡ formAt (currencyAt i .fraction) q = rw (ediv m d hd, emod m d hd) refl in
-    clash (sym (same-self (formAt (currencyAt i .fraction) q)) ∙ ap (λ (s : List ℕ). same s (formAt (currencyAt i .fraction) q)) (sym (sym a ∙ e ∙ b)) ∙ not-true _ t)
+    same-not (formAt (currencyAt i .main) p) (formAt (currencyAt i .fraction) q) (not-true _ t) (sym a ∙ e ∙ b)
   where
     ediv : (n c : ℕ) → c < 6 → (6 * n + c) / 6 ≡ n
     ediv n c h = omega arith

@@ -2,18 +2,20 @@
 -- Assumes nothing.
 use Prim.Native.Nat.{ℕ, zero, suc, _+_, _-_, _*_, _^_, _<_, _≤_}
 use mathlib.Core.Path.{_≡_, refl, sym, ap, _∙_}
-use mathlib.Core.Bool.{Bool, true, false, cond, _&&_}
+use mathlib.Core.Bool.{Bool, true, false, _&&_}
 use mathlib.Core.List.{List, [], _∷_}
 use native.Mathlib.Omega.{arith}
 use native.Mathlib.Nat.{pow-succ', one-le-pow}
-use borrow.Author.Tests.{eq-eqb, ne-eqb, eqb-true, eqb-false, ltb-true, leb-true}
+use borrow.Author.Tests.{eq-eqb, ne-eqb, ltb-true, leb-true}
 use lib.Dec.{eqb, ltb, leb}
 use lib.ListN.{length, getD, drop, length-drop}
 use lib.Seq.{drop-cons, getD-drop}
 use Rattle.base.specs.Utf8.{utf8}
-use Rattle.tables.proofs.Tests.{and-left, and-right, clash}
+use Rattle.base.specs.Same.{sameText}
+use Rattle.base.proofs.Same.{same-is, same-not, other-length}
+use Rattle.tables.proofs.Tests.{and-left, and-right}
 use Rattle.money.specs.Currencies.{Currency, currencies}
-use Rattle.money.specs.Codes.{sameText, placeIn}
+use Rattle.money.specs.Codes.{placeIn}
 use Rattle.money.specs.Rows.{codeKey, placeByKey}
 
 -- the arm of a number, and what is left past the last arm
@@ -57,22 +59,12 @@ one-key (a ∷ w) (b ∷ s) f g e =
     let y : codeKey w ≡ codeKey s = omega arith in
     rw (x, one-key w s (λ i. f (suc i)) (λ i. g (suc i)) y) refl
 
-same-self : (s : List ℕ) → sameText s s ≡ true
-same-self [] = refl
-same-self (b ∷ s) = rw (eq-eqb b b refl) (same-self s)
-
-same-is : (w s : List ℕ) → sameText w s ≡ true → w ≡ s
-same-is [] [] e = refl
-same-is [] (b ∷ s) e = clash (sym e)
-same-is (a ∷ w) [] e = clash (sym e)
-same-is (a ∷ w) (b ∷ s) e = rw (eqb-true a b (and-left (eqb a b) (sameText w s) e), same-is w s (and-right (eqb a b) (sameText w s) e)) refl
-
 same-key : (w s : List ℕ) → Bytes w → Bytes s → eqb (codeKey s) (codeKey w) ≡ sameText w s
 same-key w s f g = go (sameText w s) refl
   where
     go : (t : Bool) → sameText w s ≡ t → eqb (codeKey s) (codeKey w) ≡ t
     go true e = eq-eqb (codeKey s) (codeKey w) (ap codeKey (sym (same-is w s e)))
-    go false e = ne-eqb (codeKey s) (codeKey w) (λ k. clash (sym (same-self w) ∙ ap (sameText w) (one-key w s f g (sym k)) ∙ e))
+    go false e = ne-eqb (codeKey s) (codeKey w) (λ k. same-not w s e (one-key w s f g (sym k)))
 
 -- every code of a list has bytes, and few
 abbrev bytes? : List ℕ → Bool
@@ -107,22 +99,12 @@ unfolding placeByKey placeIn
 place-key [] s e g = refl
 place-key (c ∷ cs) s e g = rw (same-key (utf8 (c .code)) s (first-bytes c cs e) g, place-key cs s (others c cs e) g) refl
 
-longer : (w s : List ℕ) → length w < length s → sameText w s ≡ false
-longer [] [] h = absurd (omega arith)
-longer [] (b ∷ s) h = refl
-longer (a ∷ w) [] h = absurd (omega arith)
-longer (a ∷ w) (b ∷ s) h = rw (longer w s (omega arith)) (go (eqb a b))
-  where
-    go : (t : Bool) → (t && false) ≡ false
-    go true = refl
-    go false = refl
-
 place-long : (cs : List Currency) (s : List ℕ) → codes? cs ≡ true → 6 < length s → placeIn cs s ≡ length cs
 unfolding placeIn
 place-long [] s e h = refl
 place-long (c ∷ cs) s e h =
     let l = first-size c cs e in
-    rw (longer (utf8 (c .code)) s (omega arith), place-long cs s (others c cs e) h) refl
+    rw (other-length (utf8 (c .code)) s (λ (z : length s ≡ length (utf8 (c .code))). omega arith), place-long cs s (others c cs e) h) refl
 
 all-codes : codes? currencies ≡ true
 unfolding currencies

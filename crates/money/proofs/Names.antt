@@ -12,7 +12,9 @@ use Rattle.base.specs.Bank.{textIn}
 use Rattle.base.specs.Utf8.{utf8, form2}
 use Rattle.words.specs.Text.{text}
 use Rattle.bank_money.specs.Names.{names}
-use Rattle.tables.proofs.Tests.{all, all-at, and-left, and-right, same, same-is}
+use Rattle.base.specs.Same.{sameText}
+use Rattle.base.proofs.Same.{same-is}
+use Rattle.tables.proofs.Tests.{all, all-at, and-left, and-right}
 use Rattle.uk.specs.Ukrainian.{many, agreedNumber, agreedCase}
 use Rattle.uk.specs.Columns.{agreement}
 use Rattle.money.specs.NounTables.{noun2stGroupHardDeclensions, noun2stGroupSoftDeclensions, noun1stGroupSoftDeclensionsVowel, noun1stGroupHardDeclensions, adjectiveHardMasculine, hryvnias, kopiykas}
@@ -68,7 +70,7 @@ fraction-gender i h = let r = fraction-rows i h in rw (r .named) (r .genders)
 -- the endings
 entry : ℕ → ℕ → Bool
 unfolding text textIn names endings form2 noun2stGroupHardDeclensions noun2stGroupSoftDeclensions noun1stGroupSoftDeclensionsVowel noun1stGroupHardDeclensions adjectiveHardMasculine hryvnias kopiykas
-entry k p = same (text (512 + getD (getD endingIds k []) p 0)) (form2 (endings (classAt k)) (p / 6) (p % 6))
+entry k p = sameText (text (512 + getD (getD endingIds k []) p 0)) (form2 (endings (classAt k)) (p / 6) (p % 6))
 
 entries : all 0 8 (λ k. all 0 12 (entry k)) ≡ true
 unfolding entry

@@ -5,7 +5,7 @@ use Prim.Native.Nat.{ℕ}
 use Prim.Native.String.{String}
 use mathlib.Core.List.{List, [], _∷_}
 use lib.ListN.{getD}
-use Rattle.money.specs.Nouns.{Class, hard2, soft2, vowel1, hard1, adj, fixed, hryvnia, kopiyka, Name, masculine, feminine, masculine-pair}
+use Rattle.money.specs.Nouns.{hard2, soft2, vowel1, hard1, adj, fixed, hryvnia, kopiyka, Name, masculine, feminine, masculine-pair}
 
 -- a currency: its code, and the names of its main unit and of its fraction
 pub record Currency : Type 0 where
@@ -13,9 +13,11 @@ pub record Currency : Type 0 where
   pub main : Name
   pub fraction : Name
 
+-- a currency from its code and the names of its units
 abbrev currency : String → Name → Name → Currency
 currency code main fraction = record { code = code; main = main; fraction = fraction }
 
+-- all 44, in from_str's order
 unfoldable pub currencies : List Currency
 currencies =
     currency "AED" (masculine "дирхам" hard2) (masculine "філс" hard2) ∷

@@ -5,25 +5,22 @@ use mathlib.Core.Path.{_≡_}
 use mathlib.Core.Bool.{false}
 use mathlib.Core.List.{List, _++_}
 use Rattle.base.specs.Join.{Word, joined}
+use Rattle.figures.specs.Money.{moneyLimit}
 use Rattle.uk.specs.Ukrainian.{ukrainian}
 use Rattle.uk.specs.Grammar.{Sentence}
 use Rattle.money.specs.Nouns.{Name}
 use Rattle.money.specs.Currencies.{Currency}
 use Rattle.money.specs.Money.{agreedName}
 
--- the largest whole part (01, "Number texts")
-abbrev pub limit : ℕ
-limit = 18446744073709551615
-
 -- a count of a unit: a cardinal without a minus, in the unit's gender, and the unit's name
 pub data Counted (name : Name) (case : ℕ) : List Word → ℕ → Type 0 where
   counted : {ws : List Word} {n : ℕ} → Sentence (ukrainian (name .gender) case) ws false n → Counted name case (ws ++ agreedName name case n) n
 
--- an amount, its whole part and its hundredths: a whole amount, which may be zero; hundredths alone; or both
+-- an amount, its whole part and its hundredths: "zero stands only as a whole amount alone, and hundredths are 1 to 99"
 pub data Amount (c : Currency) (case : ℕ) : List Word → ℕ → ℕ → Type 0 where
-  whole : {ws : List Word} {n : ℕ} → Counted (c .main) case ws n → n ≤ limit → Amount c case ws n 0
+  whole : {ws : List Word} {n : ℕ} → Counted (c .main) case ws n → n ≤ moneyLimit → Amount c case ws n 0
   hundredths : {ws : List Word} {h : ℕ} → Counted (c .fraction) case ws h → 0 < h → h < 100 → Amount c case ws 0 h
-  both : {us ws : List Word} {n h : ℕ} → Counted (c .main) case us n → 0 < n → n ≤ limit → Counted (c .fraction) case ws h → 0 < h → h < 100
+  both : {us ws : List Word} {n h : ℕ} → Counted (c .main) case us n → 0 < n → n ≤ moneyLimit → Counted (c .fraction) case ws h → 0 < h → h < 100
       → Amount c case (us ++ ws) n h
 
 -- bytes that are an amount with this whole part and these hundredths

@@ -3,43 +3,43 @@
 use Prim.Native.String.{String}
 use mathlib.Core.List.{List, [], _∷_}
 
--- as долар
+-- `NOUN_2ST_GROUP_HARD_DECLENSIONS`: as долар
 unfoldable pub noun2stGroupHardDeclensions : List (List String)
 noun2stGroupHardDeclensions =
     ("" ∷ "а" ∷ "у" ∷ "а" ∷ "ом" ∷ "і" ∷ []) ∷
     ("и" ∷ "ів" ∷ "ам" ∷ "и" ∷ "ами" ∷ "ах" ∷ []) ∷ []
 
--- as юань
+-- `NOUN_2ST_GROUP_SOFT_DECLENSIONS`: as юань
 unfoldable pub noun2stGroupSoftDeclensions : List (List String)
 noun2stGroupSoftDeclensions =
     ("ь" ∷ "я" ∷ "ю" ∷ "я" ∷ "єм" ∷ "і" ∷ []) ∷
     ("і" ∷ "ів" ∷ "ям" ∷ "і" ∷ "ями" ∷ "ях" ∷ []) ∷ []
 
--- as рупія
+-- `NOUN_1ST_GROUP_SOFT_DECLENSIONS_VOWEL`: as рупія
 unfoldable pub noun1stGroupSoftDeclensionsVowel : List (List String)
 noun1stGroupSoftDeclensionsVowel =
     ("я" ∷ "ї" ∷ "ї" ∷ "я" ∷ "єю" ∷ "ї" ∷ []) ∷
     ("ї" ∷ "й" ∷ "ям" ∷ "ї" ∷ "ями" ∷ "ях" ∷ []) ∷ []
 
--- as єна
+-- `NOUN_1ST_GROUP_HARD_DECLENSIONS`: as єна
 unfoldable pub noun1stGroupHardDeclensions : List (List String)
 noun1stGroupHardDeclensions =
     ("а" ∷ "и" ∷ "і" ∷ "а" ∷ "ою" ∷ "і" ∷ []) ∷
     ("и" ∷ "" ∷ "ам" ∷ "и" ∷ "ами" ∷ "ах" ∷ []) ∷ []
 
--- the masculine row of ADJECTIVE_HARD_FLEXIONS_SINGULAR, and ADJECTIVE_HARD_FLEXIONS_PLURAL
+-- the masculine row of `ADJECTIVE_HARD_FLEXIONS_SINGULAR`, and `ADJECTIVE_HARD_FLEXIONS_PLURAL`
 unfoldable pub adjectiveHardMasculine : List (List String)
 adjectiveHardMasculine =
     ("ий" ∷ "ого" ∷ "ому" ∷ "ий" ∷ "им" ∷ "ому" ∷ []) ∷
     ("і" ∷ "их" ∷ "им" ∷ "их" ∷ "ими" ∷ "их" ∷ []) ∷ []
 
--- written out whole
+-- `HRYVNIAS`: written out whole
 unfoldable pub hryvnias : List (List String)
 hryvnias =
     ("гривня" ∷ "гривні" ∷ "гривні" ∷ "гривню" ∷ "гривнею" ∷ "гривні" ∷ []) ∷
     ("гривні" ∷ "гривень" ∷ "гривням" ∷ "гривні" ∷ "гривнями" ∷ "гривнях" ∷ []) ∷ []
 
--- written out whole
+-- `KOPIYKAS`: written out whole
 unfoldable pub kopiykas : List (List String)
 kopiykas =
     ("копійка" ∷ "копійки" ∷ "копійці" ∷ "копійку" ∷ "копійкою" ∷ "копійці" ∷ []) ∷

@@ -36,6 +36,7 @@ pub record Noun : Type 0 where
   pub stem : String
   pub class : Class
 
+-- a word from its stem and its class
 abbrev pub noun : String → Class → Noun
 noun stem class = record { stem = stem; class = class }
 
@@ -48,6 +49,7 @@ pub record Name : Type 0 where
   pub gender : ℕ
   pub words : List Noun
 
+-- a masculine noun as a name; a feminine one; a masculine adjective and noun
 abbrev pub masculine : String → Class → Name
 masculine stem class = record { gender = 0; words = noun stem class ∷ [] }
 

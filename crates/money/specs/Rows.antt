@@ -16,14 +16,16 @@ use Rattle.money.specs.Currencies.{Currency}
 abbrev pub classes : List Class
 classes = hard2 ∷ soft2 ∷ vowel1 ∷ hard1 ∷ adj ∷ fixed ∷ hryvnia ∷ kopiyka ∷ []
 
+-- the class with this number
 abbrev pub classAt : ℕ → Class
 classAt k = getD classes k hard2
 
--- the words of a row
+-- the adjective of a row, if any
 abbrev pub adjectiveIn : ℕ → List Noun
 adjectiveIn zero = []
 adjectiveIn (suc a) = noun (getD names (suc a) "") adj ∷ []
 
+-- the words of a row: the adjective, and the noun
 abbrev pub wordsIn : List ℕ → List Noun
 wordsIn row = adjectiveIn (getD row 0 0) ++ noun (getD names (getD row 1 0) "") (classAt (getD row 2 0)) ∷ []
 
@@ -37,7 +39,7 @@ pub record Row (name : Name) (row : List ℕ) : Type 0 where
   pub classes : getD row 2 0 < 8
   pub genders : getD row 3 0 < 3
 
--- a code as one number
+-- a code as one number, its first byte the lowest, with a 1 above the last
 abbrev pub codeKey : List ℕ → ℕ
 codeKey [] = 1
 codeKey (b ∷ s) = b + 256 * codeKey s

@@ -11,7 +11,9 @@ use Rattle.base.specs.Utf8.{utf8, form1, form2}
 use Rattle.base.specs.Bank.{textIn}
 use Rattle.bank_ordinal.specs.Names.{names}
 use Rattle.words.specs.Text.{text}
-use Rattle.tables.proofs.Tests.{all, all-at, same, same-is}
+use Rattle.base.specs.Same.{sameText}
+use Rattle.base.proofs.Same.{same-is}
+use Rattle.tables.proofs.Tests.{all, all-at}
 use Rattle.ordinal.specs.OrdinalTables.{ordinalZeroBase, oneBase, hundredBase, ordinalUnitBases, ordinalTensBases, adjectiveHardFlexionsSingular, adjectiveHardFlexionsPlural, adjectiveSoftFlexionsSingular, adjectiveSoftFlexionsPlural, ordinalHardFlexionsSingularShort, ordinalSoftFlexionsSingularShort, ordinalFlexionsPluralShort, year}
 use Rattle.ordinal.specs.Ordinal.{flexion}
 use Rattle.ordinal.specs.DigitOrdinal.{shortFlexion}
@@ -47,7 +49,7 @@ years =
 -- the number has this text
 entry : ℕ → List ℕ → Bool
 unfolding text textIn names
-entry id w = same (text id) w
+entry id w = sameText (text id) w
 
 holds : (id : ℕ) (w : List ℕ) → entry id w ≡ true → text id ≡ w
 unfolding entry

@@ -1,4 +1,4 @@
--- The words of a Ukrainian ordinal (01, "Ukrainian ordinals, years, codes"), in the ported style. A number is given by its groups of three
+-- The words of a Ukrainian ordinal (01, "Ukrainian ordinals, years, codes"; `to_ordinal` in uk.rs). A number is given by its groups of three
 -- digits, the lowest first; genders, grammatical numbers and cases are numbered as for cardinals.
 -- Assumes nothing.
 use Prim.Native.Nat.{ℕ, zero, suc, _-_, _/_, _%_}
@@ -8,7 +8,7 @@ use lib.Dec.{eqb}
 use lib.ListN.{getD, drop, set}
 use Rattle.base.specs.Join.{Word}
 use Rattle.base.specs.Utf8.{utf8, form1, form2}
-use Rattle.uk.specs.UkTables.{teenBases, megaBases}
+use Rattle.uk.specs.UkTables.{teensBases, megaBases}
 use Rattle.uk.specs.Rules.{Words, opt, numWords}
 use Rattle.uk.specs.Ukrainian.{unitForm, ukrainian}
 use Rattle.uk.specs.Cardinal.{groupsBelow}
@@ -25,7 +25,7 @@ flexion true gender (suc number) case = form1 adjectiveSoftFlexionsPlural case
 flexion false gender zero case = form2 adjectiveHardFlexionsSingular gender case
 flexion false gender (suc number) case = form1 adjectiveHardFlexionsPlural case
 
--- the words that a compound is made of: genitive, "unit 1 is ONE_BASE, 2 is masculine"
+-- the words that a compound is made of: genitive, "unit 1 is ONE_BASE, 2 is masculine". Of these words a compound has no zero, minus or noun
 unfoldable pub compounds : Words
 compounds = record {
   zeroWord = ukrainian 0 1 .zeroWord;
@@ -38,12 +38,12 @@ compounds = record {
 }
 
 -- what stands before the scale base of the group g: nothing for "a lone group of 1", else its genitive words
-abbrev pub countWords : Bool → ℕ → List Word
-countWords lone g = cond (lone && eqb g 1) [] (numWords compounds 0 (g / 100 % 10) (g / 10 % 10) (g % 10))
+abbrev pub compoundWords : Bool → ℕ → List Word
+compoundWords lone g = cond (lone && eqb g 1) [] (numWords compounds 0 (g / 100 % 10) (g / 10 % 10) (g % 10))
 
 -- the lowest group g above order 0, "one word": what counts it "run together", the "scale base, н, ending"
 unfoldable pub scaleWord : Word → Bool → ℕ → ℕ → Word
-scaleWord ending lone order g = flatten (countWords lone g ++ (form1 megaBases (order - 1) ∷ utf8 "н" ∷ ending ∷ []))
+scaleWord ending lone order g = flatten (compoundWords lone g ++ (form1 megaBases (order - 1) ∷ utf8 "н" ∷ ending ∷ []))
 
 -- "a group ending in 00 writes only HUNDRED_BASE and ending"
 abbrev pub hundredWord : Word → Word
@@ -53,7 +53,7 @@ hundredWord ending = utf8 hundredBase ++ ending
 -- and a base of ORDINAL_UNIT_BASES, with the ending on the last"
 abbrev pub tailWords : Word → ℕ → ℕ → List Word
 tailWords ending t u =
-    cond (eqb t 1) ((form1 teenBases u ++ ending) ∷ [])
+    cond (eqb t 1) ((form1 teensBases u ++ ending) ∷ [])
     (cond (eqb u 0) ((form1 ordinalTensBases (t - 1) ++ ending) ∷ [])
     (opt (ukrainian 0 0 .ten) t ++ ((form1 ordinalUnitBases (u - 1) ++ ending) ∷ [])))
 
@@ -75,13 +75,13 @@ lowest (zero ∷ gs) = suc (lowest gs)
 lowest (suc g ∷ gs) = 0
 
 -- no group is nonzero
-unfoldable pub zeros : List ℕ → Bool
-zeros [] = true
-zeros (g ∷ gs) = eqb g 0 && zeros gs
+unfoldable pub allZero : List ℕ → Bool
+allZero [] = true
+allZero (g ∷ gs) = eqb g 0 && allZero gs
 
--- the words of an ordinal: "groups above the lowest nonzero one are nominative cardinals; the lowest carries the ending", whose softness goes by
--- the number's last two digits, which stand in its group at order 0
+-- the words of an ordinal: "groups above the lowest nonzero one are nominative cardinals", which are all that is left once that one is set to 0;
+-- "the lowest carries the ending", whose softness goes by the number's last two digits, which stand in its group at order 0
 unfoldable pub ordinalWords : ℕ → ℕ → ℕ → List ℕ → List Word
 ordinalWords gender number case gs =
     groupsBelow (ukrainian 0 0) 22 (set gs (lowest gs) 0) ++
-    lowestWords (flexion (soft (getD gs 0 0)) gender number case) (zeros (drop (suc (lowest gs)) gs)) (lowest gs) (getD gs (lowest gs) 0)
+    lowestWords (flexion (soft (getD gs 0 0)) gender number case) (allZero (drop (suc (lowest gs)) gs)) (lowest gs) (getD gs (lowest gs) 0)

@@ -1,4 +1,5 @@
-// Ukrainian ordinals and years: the numbers of their stems, endings and words, and the rule that the code decides. Speller and reader see the contracts alone.
+// Ukrainian ordinals and years: the numbers of their stems, endings and words, and the rule that the code decides. The speller sees the
+// contracts alone.
 use uk::Settings;
 ghost use mathlib.Core.Path.{_≡_};
 ghost use mathlib.Core.Bool.{cond};
@@ -35,6 +36,7 @@ const ENDINGS: [[u8; 6]; 8] = [
     [33, 44, 38, 44, 45, 44],
 ];
 
+// The same of digit ordinals. Their plural has one table, so that it stands here twice.
 const SHORT_ENDINGS: [[u8; 6]; 8] = [
     [46, 47, 48, 46, 49, 48],
     [27, 50, 46, 30, 31, 46],

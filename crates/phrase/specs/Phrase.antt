@@ -1,8 +1,9 @@
--- A phrase as a list of pieces. A piece is its separator, a byte, 0 for none, and its text. The first piece's separator is not said.
+-- A phrase as a list of pieces, which is how the code plans it.
 -- Assumes nothing.
 use Prim.Native.Nat.{ℕ, zero, suc}
 use mathlib.Core.List.{List, [], _∷_, _++_}
 
+-- a separator, a byte or 0 for none, and a text
 abbrev pub Piece : Type 0
 Piece = ℕ × List ℕ
 
@@ -26,7 +27,7 @@ unfoldable pub following : List Piece → List ℕ
 following [] = []
 following (p ∷ ps) = (gap (p .0) ++ p .1) ++ following ps
 
--- the bytes of a phrase
+-- the bytes of a phrase: its first piece's separator is not said
 unfoldable pub phrase : List Piece → List ℕ
 phrase [] = []
 phrase (p ∷ ps) = p .1 ++ following ps

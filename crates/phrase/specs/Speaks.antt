@@ -6,6 +6,7 @@ use Rattle.base.specs.Join.{Word}
 use Rattle.phrase.specs.Phrase.{Piece, word, on}
 use Rattle.phrase.specs.Plan.{Added}
 
+-- the pieces say the words
 pub data Speaks : List Piece → List Word → Type 0 where
   none : Speaks [] []
   whole : (w : Word) {ps : List Piece} {ws : List Word} → Speaks ps ws → Speaks (word w ∷ ps) (w ∷ ws)

@@ -7,10 +7,12 @@ use lib.ListN.{length, drop}
 use Rattle.base.specs.Front.{begins}
 use Rattle.phrase.specs.Phrase.{Piece, gap}
 
+-- the text is empty
 abbrev pub isNil : List ℕ → Bool
 isNil [] = true
 isNil (b ∷ s) = false
 
+-- the text s is what the pieces say after others: each stands at the front of what is left behind those before it
 unfoldable pub stands : List Piece → List ℕ → Bool
 stands [] s = isNil s
 stands (p ∷ ps) s = cond (begins (gap (p .0) ++ p .1) s) (stands ps (drop (length (gap (p .0) ++ p .1)) s)) false

@@ -13,7 +13,7 @@ ghost use Rattle.phrase.specs.Phrase.{following, phrase as phraseOf};
 ghost use Rattle.phrase.specs.Plan.{pieceOf, pieces, says, Added};
 ghost use Rattle.phrase.specs.Stands.{stands as standsAs};
 
-// Adds a piece to a plan of which `at` are written.
+// Adds a piece to a plan of which `at` are written; returns how many are written then.
 pub fn push(plan: &mut [u32], at: usize, separator: u8, id: u16) -> usize
     requires { ⌜ at < length (now plan) ⌝ }
     ensures { λ r. ⌜ Added 1 (now (plan .entry)) at (now (plan .exit)) r ((separator, text id) ∷ []) ⌝ }
@@ -46,7 +46,7 @@ fn following_len(plan: &[u32]) -> usize
 }
 
 // The length of a phrase.
-pub fn len(plan: &[u32]) -> usize
+fn len(plan: &[u32]) -> usize
     requires { ⌜ length (now plan) ≤ 1000 ⌝ }
     ensures { λ r. ⌜ (r ≡ length (phraseOf (pieces (now (plan .entry))))) × (r ≤ 40 * length (now (plan .entry))) ⌝ }
 {
@@ -87,7 +87,7 @@ fn put_following(plan: &[u32], out: &mut [u8]) -> usize
 }
 
 // Writes a phrase over the front of out.
-pub fn put(plan: &[u32], out: &mut [u8]) -> usize
+fn put(plan: &[u32], out: &mut [u8]) -> usize
     requires { ⌜ length (phraseOf (pieces (now plan))) ≤ length (now out) ⌝ }
     ensures { λ r. ⌜ (r ≡ length (phraseOf (pieces (now (plan .entry))))) × (now (out .exit) ≡ over (now (out .entry)) (phraseOf (pieces (now (plan .entry))))) ⌝ }
 {

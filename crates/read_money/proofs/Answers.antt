@@ -16,7 +16,7 @@ use Rattle.tokens.specs.Tokens.{split}
 use Rattle.read_uk.specs.Reading.{sums, left}
 use Rattle.money.specs.Currencies.{currencyAt}
 use Rattle.money.specs.Money.{moneyWords}
-use Rattle.money.specs.MoneyGrammar.{limit, SaysMoney}
+use Rattle.money.specs.MoneyGrammar.{SaysMoney}
 use Rattle.money.proofs.Amounts.{Holds, amount-says, amount-is}
 use Rattle.read_money.specs.Reading.{behind}
 use Rattle.read_money.specs.Promise.{ReadMoney}

@@ -4,20 +4,22 @@
 use Prim.Native.Nat.{ℕ, zero, suc, _<_, _≤_}
 use mathlib.Core.Path.{_≡_, refl, sym, _∙_, ap}
 use mathlib.Core.Bool.{Bool, true, false, _&&_}
-use mathlib.Core.List.{List, [], _∷_}
+use mathlib.Core.List.{List}
 use native.Mathlib.Omega.{arith}
-use borrow.Author.Tests.{eq-eqb, leb-true, leb-false}
+use borrow.Author.Tests.{leb-true, leb-false}
 use lib.Dec.{eqb, leb}
 use lib.ListN.{getD}
 use Rattle.base.specs.Join.{joined}
 use Rattle.figures.specs.Groups.{groupsOf, total}
+use Rattle.figures.specs.Money.{moneyLimit}
 use Rattle.figures.proofs.Laws.Groups.{groups-at}
-use Rattle.tables.proofs.Tests.{same, same-is, clash}
+use Rattle.base.specs.Same.{sameText}
+use Rattle.base.proofs.Same.{same-is, same-not}
 use Rattle.tokens.specs.Tokens.{split}
 use Rattle.read_uk.specs.Reading.{sums, left}
 use Rattle.money.specs.Currencies.{Currency, currencyAt}
 use Rattle.money.specs.Money.{moneyWords}
-use Rattle.money.specs.MoneyGrammar.{limit, SaysMoney}
+use Rattle.money.specs.MoneyGrammar.{SaysMoney}
 use Rattle.money.proofs.Amounts.{amount-says, amount-is}
 use Rattle.read_money.specs.Reading.{behind}
 use Rattle.read_money.proofs.Made.{Guessed, plainly, alone, guessed}
@@ -27,28 +29,24 @@ abbrev pub spelled : Currency → ℕ → ℕ → ℕ → List ℕ
 spelled c case n h = joined (moneyWords c case (eqb n 0) (groupsOf 22 n) h)
 
 module _ (c : Currency) (case : ℕ) where
-  pub spelled-says : (n h : ℕ) → n ≤ limit → h < 100 → SaysMoney c case (spelled c case n h) n h
+  pub spelled-says : (n h : ℕ) → n ≤ moneyLimit → h < 100 → SaysMoney c case (spelled c case n h) n h
   spelled-says n h l k = record {
     words = moneyWords c case (eqb n 0) (groupsOf 22 n) h;
     derives = amount-says c case n h (groupsOf 22 n) (λ o i. groups-at 22 n o i) l k;
     bytes = refl;
   }
 
-  pub says-spelled : {s : List ℕ} {n h : ℕ} → SaysMoney c case s n h → (n ≤ limit) × (h < 100) × (spelled c case n h ≡ s)
+  pub says-spelled : {s : List ℕ} {n h : ℕ} → SaysMoney c case s n h → (n ≤ moneyLimit) × (h < 100) × (spelled c case n h ≡ s)
   says-spelled {n = n} p =
       let a = amount-is c case (p .derives) in
       (a .0, a .1, ap joined (sym (a .2 (groupsOf 22 n) (λ o i. groups-at 22 n o i))) ∙ sym (p .bytes))
 
-same-self : (s : List ℕ) → same s s ≡ true
-same-self [] = refl
-same-self (b ∷ s) = rw (eq-eqb b b refl) (same-self s)
-
 decide-same : (w s : List ℕ) → Dec (w ≡ s)
-decide-same w s = go (same w s) refl
+decide-same w s = go (sameText w s) refl
   where
-    go : (t : Bool) → same w s ≡ t → Dec (w ≡ s)
+    go : (t : Bool) → sameText w s ≡ t → Dec (w ≡ s)
     go true e = yes (same-is w s e)
-    go false e = no (λ p. clash (sym (same-self w) ∙ ap (same w) p ∙ e))
+    go false e = no (same-not w s e)
 
 decide-le : (m n : ℕ) → Dec (m ≤ n)
 decide-le m n = go (leb m n) refl
@@ -60,9 +58,9 @@ decide-le m n = go (leb m n) refl
 module _ (i case : ℕ) (hi : i < 44) (hc : case < 6) (s : List ℕ) where
   -- whether it is this amount
   decide : (n h : ℕ) → Dec (SaysMoney (currencyAt i) case s n h)
-  decide n h = go (decide-le n limit) (decide-le h 99) (decide-same (spelled (currencyAt i) case n h) s)
+  decide n h = go (decide-le n moneyLimit) (decide-le h 99) (decide-same (spelled (currencyAt i) case n h) s)
     where
-      go : Dec (n ≤ limit) → Dec (h ≤ 99) → Dec (spelled (currencyAt i) case n h ≡ s) → Dec (SaysMoney (currencyAt i) case s n h)
+      go : Dec (n ≤ moneyLimit) → Dec (h ≤ 99) → Dec (spelled (currencyAt i) case n h ≡ s) → Dec (SaysMoney (currencyAt i) case s n h)
       go (yes a) (yes b) (yes e) = yes (rw (← e) (spelled-says (currencyAt i) case n h a (omega arith)))
       go (yes a) (yes b) (no f) = no (λ p. f (says-spelled (currencyAt i) case p .2))
       go (yes a) (no f) e = no (λ p. f (let l = says-spelled (currencyAt i) case p .1 in omega arith))

@@ -11,8 +11,8 @@ use lib.Dec.{eqb, leb}
 use lib.ListN.{length, getD, drop, drop-of-length-le}
 use lib.Seq.{drop-cons}
 use Rattle.figures.specs.Groups.{total, Groups}
+use Rattle.figures.specs.Money.{moneyLimit}
 use Rattle.figures.proofs.Laws.Groups.{group-lt}
-use Rattle.money.specs.MoneyGrammar.{limit}
 
 at : (gs : List ℕ) (i : ℕ) → i < length gs → total (drop i gs) ≡ getD gs i 0 + 1000 * total (drop (i + 1) gs)
 at gs i h = rw (drop-cons gs i 0 h, add-one i) refl
@@ -62,22 +62,22 @@ module _ (gs : List ℕ) (z : length gs ≡ 22) (g : Groups gs) where
       let f = lt 5 (omega arith) in
       omega arith
 
-  pub above : false ≡ eqb (total (drop 7 gs)) 0 → false ≡ leb (total gs) limit
-  above e = let n = eqb-false (total (drop 7 gs)) 0 (sym e) in sym (lt-leb (total gs) limit (omega (arith, parts, n)))
+  pub above : false ≡ eqb (total (drop 7 gs)) 0 → false ≡ leb (total gs) moneyLimit
+  above e = let n = eqb-false (total (drop 7 gs)) 0 (sym e) in sym (lt-leb (total gs) moneyLimit (omega (arith, parts, n)))
 
   module _ (t : true ≡ eqb (total (drop 7 gs)) 0) where
     none : total (drop 7 gs) ≡ 0
     none = eqb-true (total (drop 7 gs)) 0 (sym t)
 
-    pub below-top : getD gs 6 0 < 18 → true ≡ leb (total gs) limit
-    below-top h = sym (le-leb (total gs) limit (omega (arith, parts, six-lt, none)))
+    pub below-top : getD gs 6 0 < 18 → true ≡ leb (total gs) moneyLimit
+    below-top h = sym (le-leb (total gs) moneyLimit (omega (arith, parts, six-lt, none)))
 
-    pub above-top : 18 < getD gs 6 0 → false ≡ leb (total gs) limit
-    above-top h = sym (lt-leb (total gs) limit (omega (arith, parts, none)))
+    pub above-top : 18 < getD gs 6 0 → false ≡ leb (total gs) moneyLimit
+    above-top h = sym (lt-leb (total gs) moneyLimit (omega (arith, parts, none)))
 
-    pub at-top : getD gs 6 0 ≡ 18 → leb six 446744073709551615 ≡ leb (total gs) limit
+    pub at-top : getD gs 6 0 ≡ 18 → leb six 446744073709551615 ≡ leb (total gs) moneyLimit
     at-top h = go (leb six 446744073709551615) refl
       where
-        go : (b : Bool) → leb six 446744073709551615 ≡ b → b ≡ leb (total gs) limit
-        go true e = sym (le-leb (total gs) limit (omega (arith, parts, none, leb-true six 446744073709551615 e)))
-        go false e = sym (lt-leb (total gs) limit (omega (arith, parts, none, leb-false six 446744073709551615 e)))
+        go : (b : Bool) → leb six 446744073709551615 ≡ b → b ≡ leb (total gs) moneyLimit
+        go true e = sym (le-leb (total gs) moneyLimit (omega (arith, parts, none, leb-true six 446744073709551615 e)))
+        go false e = sym (lt-leb (total gs) moneyLimit (omega (arith, parts, none, leb-false six 446744073709551615 e)))

@@ -24,7 +24,7 @@ use Rattle.read_uk.proofs.Sentences.{both-separable, separable}
 use Rattle.money.specs.Nouns.{Name, nameForms}
 use Rattle.money.specs.Currencies.{Currency, currencyAt}
 use Rattle.money.specs.Money.{agreedName}
-use Rattle.money.specs.MoneyGrammar.{limit, Counted, counted, Amount, whole, hundredths, both, SaysMoney}
+use Rattle.money.specs.MoneyGrammar.{Counted, counted, Amount, whole, hundredths, both, SaysMoney}
 use Rattle.money.proofs.Names.{main-gender, fraction-gender, agreed-number, agreed-case}
 use Rattle.money.proofs.Apart.{no-form-in-common}
 use Rattle.read_money.specs.Reading.{behind}

@@ -4,17 +4,17 @@
 use uk::Settings;
 ghost use mathlib.Core.Path.{_≡_};
 ghost use mathlib.Core.Bool.{true};
-ghost use Prim.Native.Nat.{ℕ, _+_, _*_, _≤_, _<_};
+ghost use Prim.Native.Nat.{_+_, _*_, _≤_, _<_};
 ghost use lib.Dec.{eqb, leb};
 ghost use lib.ListN.{length, getD, drop, replicate};
 ghost use Rattle.base.specs.Decides.{Decides};
 ghost use Rattle.base.specs.Join.{joined};
 ghost use Rattle.figures.specs.Groups.{total, Groups};
+ghost use Rattle.figures.specs.Money.{moneyLimit};
 ghost use Rattle.tokens.specs.Tokens.{split};
 ghost use Rattle.read_uk.specs.Reading.{sums};
 ghost use Rattle.money.specs.Currencies.{currencyAt};
 ghost use Rattle.money.specs.Money.{moneyWords};
-ghost use Rattle.money.specs.MoneyGrammar.{limit};
 ghost use Rattle.read_money.specs.Reading.{behind};
 ghost use Rattle.read_money.specs.Promise.{ReadMoney};
 
@@ -24,6 +24,7 @@ pub enum Seen {
     Amount(u32),
 }
 
+// A group as a wider number.
 fn wide(x: u16) -> u32
     ensures { λ r. ⌜ r ≡ x ⌝ }
 {
@@ -80,7 +81,7 @@ fn zero_from(k: usize, gs: &[u16]) -> bool
 // Whether the number with these groups is within the limit of money.
 fn within(gs: &[u16; 22]) -> bool
     requires { ⌜ Groups (now gs) ⌝ }
-    ensures { λ r. ⌜ r ≡ leb (total (now (gs .entry))) limit ⌝ }
+    ensures { λ r. ⌜ r ≡ leb (total (now (gs .entry))) moneyLimit ⌝ }
 {
     if zero_from(7, gs) {
         if gs[6] < 18 {
@@ -116,7 +117,7 @@ fn is_phrase(
 // Whether s is the phrase of the amount with these groups and hundredths, and that is within the limits.
 fn is_amount(settings: Settings, currency: usize, gs: &[u16; 22], hundredths: u32, s: &[u8]) -> bool
     requires { ⌜ (settings .case < 6) × (currency < 44) × Groups (now gs) ⌝ }
-    ensures { λ r. ⌜ Decides r ((total (now (gs .entry)) ≤ limit) × (hundredths < 100) × (joined (moneyWords (currencyAt currency) (settings .case) (eqb (total (now (gs .entry))) 0) (now (gs .entry)) hundredths) ≡ now (s .entry))) ⌝ }
+    ensures { λ r. ⌜ Decides r ((total (now (gs .entry)) ≤ moneyLimit) × (hundredths < 100) × (joined (moneyWords (currencyAt currency) (settings .case) (eqb (total (now (gs .entry))) 0) (now (gs .entry)) hundredths) ≡ now (s .entry))) ⌝ }
 {
     if 99 < hundredths {
         return false;

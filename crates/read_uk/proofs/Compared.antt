@@ -3,16 +3,18 @@
 use Prim.Native.Nat.{ℕ, zero, suc, _^_, _<_, _≤_}
 use mathlib.Core.Path.{_≡_, refl, sym, _∙_, ap, subst}
 use mathlib.Core.Bool.{Bool, true, false, not}
-use mathlib.Core.List.{List, [], _∷_, _++_}
+use mathlib.Core.List.{List}
 use native.Mathlib.Omega.{arith}
-use borrow.Author.Tests.{eqb-true, eqb-false, eq-eqb, lt-ltb, le-ltb, ltb-true}
+use borrow.Author.Tests.{eqb-true, eqb-false, lt-ltb, le-ltb, ltb-true}
 use lib.Dec.{eqb, ltb}
 use lib.ListN.{length, take}
 use Rattle.base.specs.Decides.{Decides}
 use Rattle.phrase.specs.Phrase.{phrase}
 use Rattle.phrase.specs.Plan.{pieces, says}
 use Rattle.base.specs.Join.{Word, joined}
-use Rattle.tables.proofs.Tests.{clash, same, same-is}
+use Rattle.base.specs.Same.{sameText}
+use Rattle.base.proofs.Same.{same-is, same-not}
+use Rattle.tables.proofs.Tests.{clash}
 use Rattle.tokens.specs.Tokens.{split}
 use Rattle.tokens.proofs.Words.{split-joined}
 use Rattle.figures.specs.Groups.{groupsOf, total, Groups}
@@ -105,7 +107,7 @@ module _ (W : Words) (L : Lawful W) (s : List ℕ) where
   try : (m : Bool) (n : ℕ) → List ℕ
   try m n = joined (cardinalWords W (eqb n 0) m (groupsOf 22 n))
 
-  check : (m : Bool) (n : ℕ) → n < 1000 ^ 22 → (n ≡ 0 → m ≡ false) → (t : Bool) → same (try m n) s ≡ t
+  check : (m : Bool) (n : ℕ) → n < 1000 ^ 22 → (n ≡ 0 → m ≡ false) → (t : Bool) → sameText (try m n) s ≡ t
       → ((k : Bool) (l : ℕ) → Says W s k l → (k ≡ m) × (l ≡ n)) → Dec ((k : Bool) × ((l : ℕ) × Says W s k l))
   unfolding try
   check m n h z true e u = yes (m, (n, record { words = cardinalWords W (eqb n 0) m (groupsOf 22 n); derives = sentence W m n h z; bytes = sym (same-is (try m n) s e) }))
@@ -114,11 +116,7 @@ module _ (W : Words) (L : Lawful W) (s : List ℕ) where
       let w = spelled W (p .1 .1 .derives) in
       let v : cardinalWords W (eqb n 0) m (groupsOf 22 n) ≡ p .1 .1 .words = rw (← q .0, ← q .1) (w .1) in
       let f : try m n ≡ s = ap joined v ∙ sym (p .1 .1 .bytes) in
-      clash (sym (rw f (same-own s)) ∙ e))
-    where
-      same-own : (w : List ℕ) → same w w ≡ true
-      same-own [] = refl
-      same-own (b ∷ w) = rw (eq-eqb b b refl) (same-own w)
+      same-not (try m n) s e f)
 
   only : (k : Bool) (l : ℕ) → Says W s k l → (k ≡ signed (split s)) × (l ≡ guess)
   unfolding guess
@@ -133,10 +131,10 @@ module _ (W : Words) (L : Lawful W) (s : List ℕ) where
           let h : guess < 1000 ^ 22 = subst (λ (l : ℕ). l < 1000 ^ 22) (q .1) (spelled W (p .1 .1 .derives) .0) in
           clash (sym (lt-ltb guess (1000 ^ 22) h) ∙ e))
       go true e false f z g =
-          check false guess (ltb-true guess (1000 ^ 22) e) (λ _. refl) (same (try false guess) s) refl (λ k l p. let q = only k l p in (q .0 ∙ f, q .1))
+          check false guess (ltb-true guess (1000 ^ 22) e) (λ _. refl) (sameText (try false guess) s) refl (λ k l p. let q = only k l p in (q .0 ∙ f, q .1))
       go true e true f true g = no (λ p.
           let q = only (p .0) (p .1 .0) (p .1 .1) in
           let l = spelled W (p .1 .1 .derives) .2 (q .0 ∙ f) in
           omega (arith, eqb-true guess 0 g, q .1))
       go true e true f false g =
-          check true guess (ltb-true guess (1000 ^ 22) e) (λ n. absurd (eqb-false guess 0 g n)) (same (try true guess) s) refl (λ k l p. let q = only k l p in (q .0 ∙ f, q .1))
+          check true guess (ltb-true guess (1000 ^ 22) e) (λ n. absurd (eqb-false guess 0 g n)) (sameText (try true guess) s) refl (λ k l p. let q = only k l p in (q .0 ∙ f, q .1))

@@ -12,7 +12,7 @@ use lib.ListN.{length, length-append}
 use Rattle.base.specs.Join.{Word}
 use Rattle.figures.specs.Groups.{total}
 use Rattle.uk.specs.Rules.{Words, groupWords}
-use Rattle.uk.specs.Grammar.{Falling, end, over, group}
+use Rattle.uk.specs.Grammar.{Falling, end, skip, group}
 use Rattle.read_uk.specs.Reading.{mean, Taken, taken, sums, left}
 use Rattle.read_uk.proofs.Known.{Known, Lawful}
 use Rattle.read_uk.proofs.Taking.{closed, Stops, stops, group-taken}
@@ -59,23 +59,23 @@ module _ (W : Words) (L : Lawful W) (tail : List Word) (s : Stops tail) where
 
   lowest : {k : ℕ} {ws : List Word} {n : ℕ} → k ≡ 0 → Falling W k ws n → Stops (ws ++ tail)
   lowest z end = s
-  lowest z (over f) = absurd (omega arith)
+  lowest z (skip f) = absurd (omega arith)
   lowest z (group h t u a b c o f) = absurd (omega arith)
 
   order-below : {k : ℕ} {ws : List Word} {n : ℕ} → Falling W (suc k) ws n → k < 22 → taken 0 (ws ++ tail) .order < suc k
-  order-below {k = zero} (over f) i = rw (nothing f .0, stops 0 tail s) (omega arith)
-  order-below {k = suc k} (over f) i = let h = order-below f (omega arith) in omega arith
+  order-below {k = zero} (skip f) i = rw (nothing f .0, stops 0 tail s) (omega arith)
+  order-below {k = suc k} (skip f) i = let h = order-below f (omega arith) in omega arith
   order-below {k = k} (group {ws = ws} h t u a b c o f) i =
       rw (append-assoc (groupWords W k h t u) ws tail, group-taken W L k h t u (ws ++ tail) i a b c (λ z. lowest z f)) (omega arith)
 
   pub reads-falling : {k : ℕ} {ws : List Word} {n : ℕ} → Falling W k ws n → k ≤ 22 → (total (sums k (ws ++ tail)) ≡ n) × (left k (ws ++ tail) ≡ tail)
   unfolding sums left
   reads-falling end i = (refl, refl)
-  reads-falling (over {k = zero} {ws = ws} {n = n} f) i =
+  reads-falling (skip {k = zero} {ws = ws} {n = n} f) i =
       let e = nothing f in
       let p = sums-taken 0 (ws ++ tail) 0 tail (rw (e .0) (stops 0 tail s)) in
       (p .0 ∙ sym (e .1), p .1)
-  reads-falling (over {k = suc k} {ws = ws} f) i =
+  reads-falling (skip {k = suc k} {ws = ws} f) i =
       let p = sums-over (suc k) (ws ++ tail) (λ z. let h = order-below f (omega arith) in omega arith) in
       let q = reads-falling f (omega arith) in
       (p .0 ∙ q .0, p .1 ∙ q .1)

@@ -14,7 +14,7 @@ use Rattle.tokens.specs.Tokens.{keyFrom, key}
 use Rattle.tokens.proofs.Words.{isWord}
 use Rattle.meanings.specs.Lookup.{lookup, lookupIn}
 use Rattle.meanings_uk.specs.Meanings.{keys, values, others, meaningOf}
-use Rattle.uk.specs.UkTables.{zeros, gendered, units, teenBases, teenFlexions, tens, hundreds, thousandFlexions, megaBases, megaFlexions}
+use Rattle.uk.specs.UkTables.{zeros, gendered, units, teensBases, teensFlexions, tens, hundreds, thousandFlexions, megaBases, megaFlexions}
 use Rattle.uk.specs.Rules.{Words}
 use Rattle.uk.specs.Ukrainian.{genderAt, unitForm, teenForm, many, agreedNumber, agreedCase, scaleEnding, nounForm, ukrainian}
 use Rattle.read_uk.specs.Reading.{mean}
@@ -59,7 +59,7 @@ cases f = all 0 6 f
 
 passes : (cases hundreds? ≡ true) × (cases tens? ≡ true) × (cases teens? ≡ true) × (cases units? ≡ true) × (cases scales? ≡ true) × (cases zeros? ≡ true)
     × (known? (utf8 "мінус") 2001 ≡ true)
-unfolding known? scale unitForm teenForm scaleEnding form1 form2 form3 zeros gendered units teenBases teenFlexions tens hundreds thousandFlexions megaBases megaFlexions
+unfolding known? scale unitForm teenForm scaleEnding form1 form2 form3 zeros gendered units teensBases teensFlexions tens hundreds thousandFlexions megaBases megaFlexions
 passes = (refl, refl, refl, refl, refl, refl, refl)
 
 genders : (k g : ℕ) → g < 3 → genderAt k g < 3

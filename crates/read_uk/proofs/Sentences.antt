@@ -11,7 +11,7 @@ use Rattle.base.specs.Join.{Word}
 use Rattle.figures.specs.Groups.{total}
 use Rattle.tokens.proofs.Words.{isWord, Separable}
 use Rattle.uk.specs.Rules.{Words, opt, lowWords, numWords, nounWords, groupWords}
-use Rattle.uk.specs.Grammar.{Falling, end, over, group, Sentence, zero-word, plain, negative}
+use Rattle.uk.specs.Grammar.{Falling, end, skip, group, Sentence, zero-word, plain, negative}
 use Rattle.read_uk.specs.Reading.{mean, taken, sums, signed, unsigned}
 use Rattle.read_uk.proofs.Known.{Known, Lawful}
 use Rattle.read_uk.proofs.Taking.{closed, closes}
@@ -54,7 +54,7 @@ module _ (W : Words) (L : Lawful W) where
 
   pub falling-both : {k : ℕ} {ws : List Word} {n : ℕ} → Falling W k ws n → k ≤ 22 → Separable ws × Unsigned ws
   falling-both end i = (tt, refl)
-  falling-both (over f) i = falling-both f (omega arith)
+  falling-both (skip f) i = falling-both f (omega arith)
   falling-both (group {k = k} {ws = ws} h t u a b c o f) i =
       rw (append-assoc (numWords W k h t u) (nounWords W k t u) ws, append-assoc (opt (W .hundred) h) (lowWords W k t u) (nounWords W k t u ++ ws))
       (hundred-both h (lowWords W k t u ++ (nounWords W k t u ++ ws)) a

@@ -2,7 +2,7 @@
 -- nothing here has to be believed.
 -- Assumes nothing.
 use Prim.Native.Nat.{ℕ, zero, suc, _+_, _-_, _%_}
-use mathlib.Core.Bool.{Bool, true, false, cond}
+use mathlib.Core.Bool.{Bool, false, cond}
 use mathlib.Core.List.{List, [], _∷_, _++_}
 use lib.Dec.{eqb, ltb}
 use Rattle.base.specs.Join.{Word}
@@ -36,11 +36,12 @@ unfoldable pub left : ℕ → List Word → List Word
 left zero ws = ws
 left (suc k) ws = cond (eqb (taken 0 ws .order) k) (left k (taken 0 ws .rest)) (left k ws)
 
--- whether a text begins with the minus word, and the words behind it
+-- whether the minus word stands first
 abbrev pub signed : List Word → Bool
 signed [] = false
 signed (w ∷ ws) = eqb (mean w) 2001
 
+-- the words without it
 abbrev pub unsigned : List Word → List Word
 unsigned [] = []
 unsigned (w ∷ ws) = cond (eqb (mean w) 2001) ws (w ∷ ws)

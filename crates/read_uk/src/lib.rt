@@ -4,7 +4,7 @@ use uk::Settings;
 ghost use mathlib.Core.Path.{_≡_};
 ghost use mathlib.Core.Bool.{not};
 ghost use mathlib.Core.List.{_++_};
-ghost use Prim.Native.Nat.{ℕ, _+_, _≤_, _<_};
+ghost use Prim.Native.Nat.{_+_, _≤_, _<_};
 ghost use lib.Dec.{eqb};
 ghost use lib.ListN.{length, take, drop, replicate};
 ghost use Rattle.figures.specs.Groups.{total, Groups};
@@ -64,7 +64,7 @@ fn first_group(s: &[u8]) -> Group
 }
 
 // The groups of the orders below k, from the highest down; each call has a lower order and the part of the text behind its group.
-// The orders that are not there stay 0. How many bytes the groups have.
+// The orders that are not there stay 0. Returns how many bytes the groups have.
 pub fn groups(k: usize, s: &[u8], out: &mut [u16; 22]) -> usize
     requires { ⌜ (k ≤ 22) × (take k (now out) ≡ replicate k 0) ⌝ }
     ensures { λ r. ⌜ (now (out .exit) ≡ sums k (split (now (s .entry))) ++ drop k (now (out .entry))) × (Groups (now (out .entry)) → Groups (now (out .exit))) ⌝ }

@@ -1,25 +1,25 @@
 -- 01's samples hold: each line is computed from the written rules.
 -- Assumes nothing.
 use Prim.Native.Nat.{ℕ, zero, suc}
-use mathlib.Core.Path.{_≡_, refl, sym, ap, _∙_}
-use mathlib.Core.Bool.{Bool, true, false}
+use mathlib.Core.Path.{_≡_, refl, ap, _∙_}
+use mathlib.Core.Bool.{false}
 use mathlib.Core.List.{List, [], _∷_, flatten}
 use native.Mathlib.Omega.{arith}
-use borrow.Author.Tests.{eq-eqb}
 use lib.Dec.{lit<}
 use Rattle.base.specs.Utf8.{utf8, form1, form2, form3}
 use Rattle.base.specs.Answer.{Reply, refused, bytes}
 use Rattle.base.specs.Join.{joined}
-use Rattle.tables.proofs.Tests.{same, clash}
+use Rattle.base.specs.Same.{sameText}
+use Rattle.base.proofs.Same.{same-not}
 use Rattle.tokens.specs.Tokens.{firstWord, afterWord, split, keyFrom}
 use Rattle.meanings.specs.Lookup.{lookup, lookupIn}
 use Rattle.meanings_uk.specs.Meanings.{keys, values, others, meaningOf}
 use Rattle.figures.specs.Groups.{groupsOf, total}
-use Rattle.uk.specs.UkTables.{zeros, gendered, units, teenBases, teenFlexions, tens, hundreds, thousandFlexions, megaBases, megaFlexions}
+use Rattle.uk.specs.UkTables.{zeros, gendered, units, teensBases, teensFlexions, tens, hundreds, thousandFlexions, megaBases, megaFlexions}
 use Rattle.uk.specs.Ukrainian.{unitForm, teenForm, scaleEnding, nounForm, ukrainian}
 use Rattle.uk.specs.Cardinal.{groupOf, groupsBelow, cardinalWords}
 use Rattle.ordinal.specs.OrdinalTables.{ordinalZeroBase, oneBase, ordinalUnitBases, ordinalTensBases, hundredBase, adjectiveHardFlexionsSingular, adjectiveHardFlexionsPlural, adjectiveSoftFlexionsSingular, adjectiveSoftFlexionsPlural, year}
-use Rattle.ordinal.specs.Ordinal.{flexion, compounds, scaleWord, plainWords, lowestWords, lowest, ordinalWords, zeros as zerosBelow}
+use Rattle.ordinal.specs.Ordinal.{flexion, compounds, scaleWord, plainWords, lowestWords, lowest, ordinalWords, allZero}
 use Rattle.ordinal.specs.Year.{yearWords}
 use Rattle.money.specs.NounTables.{noun2stGroupHardDeclensions, noun2stGroupSoftDeclensions, noun1stGroupSoftDeclensionsVowel, noun1stGroupHardDeclensions, adjectiveHardMasculine, hryvnias, kopiykas}
 use Rattle.money.specs.Nouns.{endings, formOf, nameForms}
@@ -40,22 +40,14 @@ use Rattle.calls_fr.specs.Calls.{cardinalOf, ordinalOf}
 use Rattle.samples.specs.Samples.{replyTo, card, ord, frenchCard, never, unread, Holds, samples, All}
 use Rattle.samples.proofs.Unread.{no-sentence}
 
--- two texts that a test tells apart
-same-own : (w : List ℕ) → same w w ≡ true
-same-own [] = refl
-same-own (b ∷ w) = rw (eq-eqb b b refl) (same-own w)
-
-apart : (a b : List ℕ) → same a b ≡ false → a ≡ b → ⊥
-apart a b e q = clash (sym (same-own b) ∙ ap (λ (x : List ℕ). same x b) (sym q) ∙ e)
-
 -- a reply that is another text
 bytesOf : Reply → List ℕ
 bytesOf (refused n l) = []
 bytesOf (bytes b) = b
 
-other : (r : Reply) (b : List ℕ) → same (bytesOf r) b ≡ false → r ≡ bytes b → ⊥
+other : (r : Reply) (b : List ℕ) → sameText (bytesOf r) b ≡ false → r ≡ bytes b → ⊥
 unfolding bytesOf
-other r b e q = apart (bytesOf r) b e (ap bytesOf q)
+other r b e q = same-not (bytesOf r) b e (ap bytesOf q)
 
 -- `два тисячі`: what is made of it is 2000, whose phrase is another
 abbrev twoThousand : List ℕ
@@ -85,18 +77,18 @@ sum-two : total (sums 22 (unsigned (split twoThousand))) ≡ 2000
 sum-two = rw unsigned-words (above 20)
 
 unread-two : Holds (unread "два тисячі")
-unfolding form1 form2 form3 groupsOf zeros gendered units teenBases teenFlexions tens hundreds thousandFlexions megaBases megaFlexions unitForm teenForm scaleEnding nounForm ukrainian groupOf groupsBelow cardinalWords cardinal
+unfolding form1 form2 form3 groupsOf zeros gendered units teensBases teensFlexions tens hundreds thousandFlexions megaBases megaFlexions unitForm teenForm scaleEnding nounForm ukrainian groupOf groupsBelow cardinalWords cardinal
 unread-two =
     no-sentence 0 0 twoThousand false 2000 (lit< tt) (lit< tt) unsigned-two sum-two
-    (apart (joined (cardinalWords (ukrainian 0 0) false false (groupsOf 22 2000))) twoThousand refl)
+    (same-not (joined (cardinalWords (ukrainian 0 0) false false (groupsOf 22 2000))) twoThousand refl)
 
--- what habit says
+-- "Errors of habit"
 genitive-after-five : Holds (never (card 0 0 3 "5000") "пʼять тисяч")
-unfolding form1 form2 form3 groupsOf zeros gendered units teenBases teenFlexions tens hundreds thousandFlexions megaBases megaFlexions unitForm teenForm scaleEnding nounForm ukrainian groupOf groupsBelow cardinalWords cardinal bytesOf
+unfolding form1 form2 form3 groupsOf zeros gendered units teensBases teensFlexions tens hundreds thousandFlexions megaBases megaFlexions unitForm teenForm scaleEnding nounForm ukrainian groupOf groupsBelow cardinalWords cardinal bytesOf
 genitive-after-five = other (replyTo (card 0 0 3 "5000")) (utf8 "пʼять тисяч") refl
 
 two-hundredth : Holds (never (ord 0 0 0 "200") "двохсотий")
-unfolding form1 form2 form3 groupsOf zeros gendered units teenBases teenFlexions tens hundreds thousandFlexions megaBases megaFlexions unitForm teenForm scaleEnding nounForm ukrainian groupOf groupsBelow cardinalWords cardinal ordinalZeroBase oneBase ordinalUnitBases ordinalTensBases hundredBase adjectiveHardFlexionsSingular adjectiveHardFlexionsPlural adjectiveSoftFlexionsSingular adjectiveSoftFlexionsPlural year flexion compounds scaleWord plainWords lowestWords lowest ordinalWords zerosBelow yearWords ordinalPhrase yearPhrase flatten bytesOf
+unfolding form1 form2 form3 groupsOf zeros gendered units teensBases teensFlexions tens hundreds thousandFlexions megaBases megaFlexions unitForm teenForm scaleEnding nounForm ukrainian groupOf groupsBelow cardinalWords cardinal ordinalZeroBase oneBase ordinalUnitBases ordinalTensBases hundredBase adjectiveHardFlexionsSingular adjectiveHardFlexionsPlural adjectiveSoftFlexionsSingular adjectiveSoftFlexionsPlural year flexion compounds scaleWord plainWords lowestWords lowest ordinalWords allZero yearWords ordinalPhrase yearPhrase flatten bytesOf
 two-hundredth = other (replyTo (ord 0 0 0 "200")) (utf8 "двохсотий") refl
 
 un-mille : Holds (never (frenchCard 0 0 0 "1000") "un mille")
@@ -104,10 +96,10 @@ unfolding form1 groupsOf frUnits frTens teens megas centWord hundredWords tenWor
 un-mille = other (replyTo (frenchCard 0 0 0 "1000")) (utf8 "un mille") refl
 
 ascii-apostrophe : Holds (never (card 0 0 0 "5") "п'ять")
-unfolding form1 form2 form3 groupsOf zeros gendered units teenBases teenFlexions tens hundreds thousandFlexions megaBases megaFlexions unitForm teenForm scaleEnding nounForm ukrainian groupOf groupsBelow cardinalWords cardinal bytesOf
+unfolding form1 form2 form3 groupsOf zeros gendered units teensBases teensFlexions tens hundreds thousandFlexions megaBases megaFlexions unitForm teenForm scaleEnding nounForm ukrainian groupOf groupsBelow cardinalWords cardinal bytesOf
 ascii-apostrophe = other (replyTo (card 0 0 0 "5")) (utf8 "п'ять") refl
 
 pub samples-hold : All samples
-unfolding form1 form2 form3 groupsOf zeros gendered units teenBases teenFlexions tens hundreds thousandFlexions megaBases megaFlexions unitForm teenForm scaleEnding nounForm ukrainian groupOf groupsBelow cardinalWords cardinal ordinalZeroBase oneBase ordinalUnitBases ordinalTensBases hundredBase adjectiveHardFlexionsSingular adjectiveHardFlexionsPlural adjectiveSoftFlexionsSingular adjectiveSoftFlexionsPlural year flexion compounds scaleWord plainWords lowestWords lowest ordinalWords zerosBelow yearWords ordinalPhrase yearPhrase flatten noun2stGroupHardDeclensions noun2stGroupSoftDeclensions noun1stGroupSoftDeclensionsVowel noun1stGroupHardDeclensions adjectiveHardMasculine hryvnias kopiykas endings formOf nameForms currencies placeIn agreedName countWords moneyWords moneyPhrase frUnits frTens teens megas centWord hundredWords tenWord roundWord link unitWord pairWord lowWords scaleWords groupWords frGroupsBelow frCardinalWords cardinalPhrase withoutE nth frOrdinalPhrase cardinalOf ordinalOf
+unfolding form1 form2 form3 groupsOf zeros gendered units teensBases teensFlexions tens hundreds thousandFlexions megaBases megaFlexions unitForm teenForm scaleEnding nounForm ukrainian groupOf groupsBelow cardinalWords cardinal ordinalZeroBase oneBase ordinalUnitBases ordinalTensBases hundredBase adjectiveHardFlexionsSingular adjectiveHardFlexionsPlural adjectiveSoftFlexionsSingular adjectiveSoftFlexionsPlural year flexion compounds scaleWord plainWords lowestWords lowest ordinalWords allZero yearWords ordinalPhrase yearPhrase flatten noun2stGroupHardDeclensions noun2stGroupSoftDeclensions noun1stGroupSoftDeclensionsVowel noun1stGroupHardDeclensions adjectiveHardMasculine hryvnias kopiykas endings formOf nameForms currencies placeIn agreedName countWords moneyWords moneyPhrase frUnits frTens teens megas centWord hundredWords tenWord roundWord link unitWord pairWord lowWords scaleWords groupWords frGroupsBelow frCardinalWords cardinalPhrase withoutE nth frOrdinalPhrase cardinalOf ordinalOf
 samples-hold =
     (refl, (refl, (refl, (refl, (refl, (refl, (refl, (refl, (refl, (refl, (refl, (refl, (refl, (refl, (refl, (refl, (refl, (refl, (refl, (unread-two, (genitive-after-five, (two-hundredth, (un-mille, (ascii-apostrophe, tt))))))))))))))))))))))))

@@ -7,10 +7,10 @@ use mathlib.Core.List.{List, [], _∷_}
 use lib.IntN.{ℤ, pos, negℤ}
 use Rattle.base.specs.Utf8.{utf8}
 use Rattle.base.specs.Answer.{Reply, refused, bytes, numberOf}
-use Rattle.money.specs.Currencies.{currencyAt}
-use Rattle.money.specs.Codes.{placeOf}
+use Rattle.money.specs.Codes.{currencyOf}
+use Rattle.uk.specs.Settings.{unlessSettings}
 use Rattle.calls_uk.specs.Cardinals.{refusedCardinal, cardinal, Means}
-use Rattle.calls_ordinal.specs.Calls.{unlessSettings, ordinalText, ordinalPhrase, yearPhrase}
+use Rattle.calls_ordinal.specs.Calls.{refusedOrdinal, ordinalPhrase, yearPhrase}
 use Rattle.calls_money.specs.MoneyCalls.{refusedAmount, moneyPhrase}
 use Rattle.calls_fr.specs.Calls.{french, firstRefusal, cardinalRefusal, ordinalRefusal, cardinalOf, ordinalOf}
 
@@ -31,14 +31,14 @@ reply (suc n) b = refused (suc n) 0
 -- the reply to a call, by the definitions that its contract cites
 abbrev pub replyTo : Call → Reply
 replyTo (card g n c t) = reply (refusedCardinal g n c (utf8 t)) (cardinal g c (utf8 t))
-replyTo (ord g n c t) = reply (unlessSettings g n c (ordinalText (utf8 t))) (ordinalPhrase g n c (utf8 t))
+replyTo (ord g n c t) = reply (unlessSettings g n c (refusedOrdinal (utf8 t))) (ordinalPhrase g n c (utf8 t))
 replyTo (year g n c y) = reply (unlessSettings g n c 0) (yearPhrase n c y)
-replyTo (money g n c k t) = reply (refusedAmount g n c (utf8 k) (utf8 t)) (moneyPhrase (currencyAt (placeOf (utf8 k))) c (utf8 t))
+replyTo (money g n c k t) = reply (refusedAmount g n c (utf8 k) (utf8 t)) (moneyPhrase (currencyOf (utf8 k)) c (utf8 t))
 replyTo (frenchCard f o r t) = reply (firstRefusal (french f o r) (cardinalRefusal (utf8 t))) (cardinalOf (french f o r) (utf8 t))
 replyTo (frenchOrd f o r t) = reply (firstRefusal (french f o r) (ordinalRefusal (utf8 t))) (ordinalOf (french f o r) (utf8 t))
 
--- a line of the table: a call's phrase, its refusal, that it is not refused, a phrase of habit that it does not say, and a phrase that is
--- refused by 6 under masculine, singular, nominative
+-- a line of the table: a call's phrase, its refusal, that it is not refused, a phrase that it does not say ("Errors of habit"), and a phrase that
+-- is refused by 6 under masculine, singular, nominative
 pub data Sample : Type 0 where
   says : Call → String → Sample
   refuses : Call → ℕ → Sample
@@ -46,6 +46,7 @@ pub data Sample : Type 0 where
   never : Call → String → Sample
   unread : String → Sample
 
+-- what a line says
 abbrev pub Holds : Sample → Type 0
 Holds (says c p) = replyTo c ≡ bytes (utf8 p)
 Holds (refuses c n) = replyTo c ≡ refused n 0
@@ -58,7 +59,7 @@ abbrev pub All : List Sample → Type 0
 All [] = Unit
 All (s ∷ ss) = Holds s × All ss
 
--- the table
+-- the table: phrases, refusals, and "Errors of habit"
 abbrev pub samples : List Sample
 samples =
     says (card 1 0 0 "42") "сорок дві" ∷

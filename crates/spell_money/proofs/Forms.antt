@@ -98,18 +98,18 @@ unfolding countWords cardinalWords groupsBelow groupOf
 lowest name case h = refl
 
 -- the cases of an amount
-pub whole-is : (c : Currency) (case : ℕ) (nought : Bool) (gs : List ℕ) (h : ℕ) → h ≡ 0 → countWords (c .main) case nought gs ≡ moneyWords c case nought gs h
+pub whole-is : (c : Currency) (case : ℕ) (isZero : Bool) (gs : List ℕ) (h : ℕ) → h ≡ 0 → countWords (c .main) case isZero gs ≡ moneyWords c case isZero gs h
 unfolding moneyWords
-whole-is c case nought gs h e = rw e refl
+whole-is c case isZero gs h e = rw e refl
 
-pub hundredths-is : (c : Currency) (case : ℕ) (nought : Bool) (gs : List ℕ) (h : ℕ) → (h ≡ 0 → ⊥) → nought ≡ true
-    → countWords (c .fraction) case false (h ∷ []) ≡ moneyWords c case nought gs h
+pub hundredths-is : (c : Currency) (case : ℕ) (isZero : Bool) (gs : List ℕ) (h : ℕ) → (h ≡ 0 → ⊥) → isZero ≡ true
+    → countWords (c .fraction) case false (h ∷ []) ≡ moneyWords c case isZero gs h
 unfolding moneyWords
-hundredths-is c case nought gs zero n e = absurd (n refl)
-hundredths-is c case nought gs (suc h) n e = rw e refl
+hundredths-is c case isZero gs zero n e = absurd (n refl)
+hundredths-is c case isZero gs (suc h) n e = rw e refl
 
-pub both-is : (c : Currency) (case : ℕ) (nought : Bool) (gs : List ℕ) (h : ℕ) → (h ≡ 0 → ⊥) → nought ≡ false
-    → countWords (c .main) case false gs ++ countWords (c .fraction) case false (h ∷ []) ≡ moneyWords c case nought gs h
+pub both-is : (c : Currency) (case : ℕ) (isZero : Bool) (gs : List ℕ) (h : ℕ) → (h ≡ 0 → ⊥) → isZero ≡ false
+    → countWords (c .main) case false gs ++ countWords (c .fraction) case false (h ∷ []) ≡ moneyWords c case isZero gs h
 unfolding moneyWords
-both-is c case nought gs zero n e = absurd (n refl)
-both-is c case nought gs (suc h) n e = rw e refl
+both-is c case isZero gs zero n e = absurd (n refl)
+both-is c case isZero gs (suc h) n e = rw e refl

@@ -1,5 +1,7 @@
 // The plan of an amount of Ukrainian money, from the groups of its whole part, lowest order first, and its hundredths.
 use phrase::push;
+use spell_uk::ON;
+use spell_uk::SPACE;
 use uk::Settings;
 ghost use mathlib.Core.Path.{_≡_};
 ghost use mathlib.Core.Bool.{false};
@@ -17,10 +19,6 @@ ghost use Rattle.money.specs.Nouns.{formOf};
 ghost use Rattle.money.specs.Currencies.{currencyAt};
 ghost use Rattle.money.specs.Money.{agreedName, countWords, moneyWords};
 ghost use Rattle.money.specs.Rows.{adjectiveIn, nameIn};
-
-const SPACE: u8 = 32;
-
-const ON: u8 = 0;
 
 // A number among the texts of the currency nouns, as a number among all.
 fn noun_text(id: u8) -> u16

@@ -18,7 +18,7 @@ use Rattle.uk.specs.Rules.{Words}
 use Rattle.uk.specs.Ukrainian.{ukrainian}
 use Rattle.uk.specs.Cardinal.{groupOf, groupsBelow}
 use Rattle.ordinal.specs.OrdinalTables.{ordinalZeroBase}
-use Rattle.ordinal.specs.Ordinal.{soft, flexion, lowestWords, lowest, zeros, ordinalWords}
+use Rattle.ordinal.specs.Ordinal.{soft, flexion, lowestWords, lowest, allZero, ordinalWords}
 use Rattle.spell_ordinal.specs.Groups.{sumOf}
 
 -- the lowest from an order on
@@ -51,8 +51,8 @@ sum-next gs i h = rw (add-one i) (go gs i h)
 pub sum-all : (gs : List ℕ) (i : ℕ) → length gs ≤ i → sumOf (take i gs) ≡ sumOf gs
 sum-all gs i h = rw (take-all i gs h) refl
 
-sum-zeros : (gs : List ℕ) → zeros gs ≡ eqb (sumOf gs) 0
-unfolding zeros sumOf
+sum-zeros : (gs : List ℕ) → allZero gs ≡ eqb (sumOf gs) 0
+unfolding allZero sumOf
 sum-zeros [] = refl
 sum-zeros (zero ∷ gs) = let e : 0 + sumOf gs ≡ sumOf gs = omega arith in rw e (sum-zeros gs)
 sum-zeros (suc g ∷ gs) = rw (ne-eqb (suc g) 0 (λ e. omega arith), ne-eqb (suc g + sumOf gs) 0 (λ e. omega arith)) refl
@@ -61,7 +61,7 @@ same-sum : (g n : ℕ) → eqb n 0 ≡ eqb (g + n) g
 same-sum g zero = sym (eq-eqb (g + 0) g (omega arith))
 same-sum g (suc n) = ne-eqb (suc n) 0 (λ e. omega arith) ∙ sym (ne-eqb (g + suc n) g (λ e. omega arith))
 
-pub sum-lone : (gs : List ℕ) → lowest gs < length gs → eqb (sumOf gs) (getD gs (lowest gs) 0) ≡ zeros (drop (suc (lowest gs)) gs)
+pub sum-lone : (gs : List ℕ) → lowest gs < length gs → eqb (sumOf gs) (getD gs (lowest gs) 0) ≡ allZero (drop (suc (lowest gs)) gs)
 unfolding lowest sumOf
 sum-lone [] h = absurd (omega arith)
 sum-lone (zero ∷ gs) h = let e : 0 + sumOf gs ≡ sumOf gs = omega arith in rw e (sum-lone gs (omega arith))
@@ -81,13 +81,13 @@ lowest-below (zero ∷ gs) zero h = refl
 lowest-below (zero ∷ gs) (suc i) h = lowest-below gs i (omega arith)
 lowest-below (suc g ∷ gs) i h = absurd (omega arith)
 
-zeros-at : (gs : List ℕ) (i : ℕ) → zeros gs ≡ true → getD gs i 0 ≡ 0
-unfolding zeros
+zeros-at : (gs : List ℕ) (i : ℕ) → allZero gs ≡ true → getD gs i 0 ≡ 0
+unfolding allZero
 zeros-at [] i e = refl
-zeros-at (g ∷ gs) zero e = eqb-true g 0 (and-left (eqb g 0) (zeros gs) e)
-zeros-at (g ∷ gs) (suc i) e = zeros-at gs i (and-right (eqb g 0) (zeros gs) e)
+zeros-at (g ∷ gs) zero e = eqb-true g 0 (and-left (eqb g 0) (allZero gs) e)
+zeros-at (g ∷ gs) (suc i) e = zeros-at gs i (and-right (eqb g 0) (allZero gs) e)
 
-zeros-above : (gs : List ℕ) (k i : ℕ) → zeros (drop (suc k) gs) ≡ true → k < i → getD gs i 0 ≡ 0
+zeros-above : (gs : List ℕ) (k i : ℕ) → allZero (drop (suc k) gs) ≡ true → k < i → getD gs i 0 ≡ 0
 zeros-above gs k i e h =
     let j : suc k + (i - suc k) ≡ i = omega arith in
     ap (λ (n : ℕ). getD gs n 0) (sym j) ∙ sym (getD-drop (suc k) gs (i - suc k) 0) ∙ zeros-at (drop (suc k) gs) (i - suc k) e
@@ -105,7 +105,7 @@ all-none gs h i = go (decLt i (lowest gs))
     go (yes l) = lowest-below gs i l
     go (no l) = List·getD-eq-default gs 0 (omega arith)
 
-lone-none : (gs : List ℕ) → lowest gs < length gs → zeros (drop (suc (lowest gs)) gs) ≡ true → (i : ℕ) → getD (set gs (lowest gs) 0) i 0 ≡ 0
+lone-none : (gs : List ℕ) → lowest gs < length gs → allZero (drop (suc (lowest gs)) gs) ≡ true → (i : ℕ) → getD (set gs (lowest gs) 0) i 0 ≡ 0
 lone-none gs h e i = go (ℕ-discrete i (lowest gs)) (decLt i (lowest gs))
   where
     go : Dec (i ≡ lowest gs) → Dec (i < lowest gs) → getD (set gs (lowest gs) 0) i 0 ≡ 0
@@ -120,12 +120,12 @@ module _ (gender number case : ℕ) (gs : List ℕ) (count : length gs ≡ 22) (
   ordinal-zero z =
       rw (set-out gs (lowest gs) 0 (omega arith), groups-none (ukrainian 0 0) 22 gs (all-none gs (omega arith)), all-none gs (omega arith) (lowest gs), ← ends) refl
 
-  pub ordinal-lone : k < 22 → zeros (drop (suc k) gs) ≡ true → lowestWords e true k (getD gs k 0) ≡ ordinalWords gender number case gs
+  pub ordinal-lone : k < 22 → allZero (drop (suc k) gs) ≡ true → lowestWords e true k (getD gs k 0) ≡ ordinalWords gender number case gs
   unfolding ordinalWords
   ordinal-lone h z =
-      let f : zeros (drop (suc (lowest gs)) gs) ≡ true = rw here at z in
+      let f : allZero (drop (suc (lowest gs)) gs) ≡ true = rw here at z in
       rw (groups-none (ukrainian 0 0) 22 (set gs (lowest gs) 0) (lone-none gs (omega arith) f), f, here, ends) refl
 
-  pub ordinal-higher : zeros (drop (suc k) gs) ≡ false → groupsBelow (ukrainian 0 0) 22 (set gs k 0) ++ lowestWords e false k (getD gs k 0) ≡ ordinalWords gender number case gs
+  pub ordinal-higher : allZero (drop (suc k) gs) ≡ false → groupsBelow (ukrainian 0 0) 22 (set gs k 0) ++ lowestWords e false k (getD gs k 0) ≡ ordinalWords gender number case gs
   unfolding ordinalWords
-  ordinal-higher z = let f : zeros (drop (suc (lowest gs)) gs) ≡ false = rw here at z in rw (f, here, ends) refl
+  ordinal-higher z = let f : allZero (drop (suc (lowest gs)) gs) ≡ false = rw here at z in rw (f, here, ends) refl

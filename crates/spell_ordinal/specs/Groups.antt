@@ -5,8 +5,8 @@ use mathlib.Core.Path.{_≡_}
 use mathlib.Core.List.{List, [], _∷_}
 use lib.ListN.{length, getD}
 
--- 22 groups of three digits
-pub record Groups (gs : List ℕ) : Type 0 where
+-- 22 groups of at most three digits
+pub record Groups22 (gs : List ℕ) : Type 0 where
   pub count : length gs ≡ 22
   pub below : (i : ℕ) → getD gs i 0 < 1000
 

@@ -24,10 +24,10 @@ unfoldable pub run : ℕ → List Word → List ℕ
 run s [] = []
 run s (w ∷ ws) = gap s ++ flatten (w ∷ ws)
 
--- so much is added to a plan, and says the words ws, run together after the separator s
+-- `Said` of the words ws, run together after the separator s
 pub record Ran (s k : ℕ) (xs : List ℕ) (n : ℕ) (ys : List ℕ) (r : ℕ) (ws : List Word) : Type 0 where
   pub said : Said s k xs n ys r (run s ws)
 
--- so much is added to a plan, and says the words ws, each after a space
+-- `Said` of the words ws, each after a space
 pub record Spoken (k : ℕ) (xs : List ℕ) (n : ℕ) (ys : List ℕ) (r : ℕ) (ws : List Word) : Type 0 where
   pub said : Said 32 k xs n ys r (spaced ws)

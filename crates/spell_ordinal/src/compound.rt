@@ -1,8 +1,8 @@
 // The lowest group above order 0: one word, run together from what counts the scale, the scale's base, н and the ending.
-use crate::pieces::ON;
-use crate::pieces::SPACE;
-use crate::pieces::say;
 use phrase::push;
+use spell_uk::ON;
+use spell_uk::SPACE;
+use spell_uk::say;
 ghost use mathlib.Core.Path.{_≡_};
 ghost use mathlib.Core.Bool.{_&&_};
 ghost use mathlib.Core.List.{[], _∷_};

@@ -1,10 +1,9 @@
 // The plans of Ukrainian ordinals and years. A number comes as its groups of three digits, lowest order first.
 mod compound;
-mod pieces;
 mod plain;
 
-use crate::pieces::SPACE;
 use phrase::push;
+use spell_uk::SPACE;
 use uk::Settings;
 ghost use mathlib.Core.Path.{_≡_};
 ghost use Prim.Native.Nat.{suc, _+_, _≤_, _<_};
@@ -16,10 +15,10 @@ ghost use Rattle.phrase.specs.Plan.{says};
 ghost use Rattle.phrase.specs.Speaks.{Told};
 ghost use Rattle.uk.specs.Ukrainian.{ukrainian};
 ghost use Rattle.uk.specs.Cardinal.{groupsBelow};
-ghost use Rattle.ordinal.specs.Ordinal.{lowestWords, lowest as lowestOf, zeros, ordinalWords};
+ghost use Rattle.ordinal.specs.Ordinal.{lowestWords, lowest as lowestOf, allZero, ordinalWords};
 ghost use Rattle.ordinal.specs.Year.{eraWords, yearWords};
 ghost use Rattle.spell_ordinal.specs.Said.{Spoken};
-ghost use Rattle.spell_ordinal.specs.Groups.{Groups, sumOf};
+ghost use Rattle.spell_ordinal.specs.Groups.{Groups22, sumOf};
 
 // The order of the lowest group that is not zero; 22 where there is none.
 fn lowest(gs: &[u16; 22]) -> usize
@@ -38,7 +37,7 @@ fn lowest(gs: &[u16; 22]) -> usize
 
 // The groups added up: a sum has no branch.
 fn sum(gs: &[u16; 22]) -> u32
-    requires { ⌜ Groups (now gs) ⌝ }
+    requires { ⌜ Groups22 (now gs) ⌝ }
     ensures { λ r. ⌜ r ≡ sumOf (now (gs .entry)) ⌝ }
 {
     let mut n: u32 = 0;
@@ -52,8 +51,8 @@ fn sum(gs: &[u16; 22]) -> u32
 
 // Whether the lowest group that is not zero is the only one.
 fn is_lone(gs: &[u16; 22], order: usize) -> bool
-    requires { ⌜ Groups (now gs) × (order < 22) × (order ≡ lowestOf (now gs)) ⌝ }
-    ensures { λ r. ⌜ r ≡ zeros (drop (suc order) (now (gs .entry))) ⌝ }
+    requires { ⌜ Groups22 (now gs) × (order < 22) × (order ≡ lowestOf (now gs)) ⌝ }
+    ensures { λ r. ⌜ r ≡ allZero (drop (suc order) (now (gs .entry))) ⌝ }
 {
     sum(gs) == gs[order] as u32
 }
@@ -93,7 +92,7 @@ fn lowest_words(
 
 // Adds an ordinal's words to a plan.
 fn say_ordinal(settings: Settings, gs: &[u16; 22], plan: &mut [u32], at: usize) -> usize
-    requires { ⌜ ((settings .gender < 3) × (settings .number < 2) × (settings .case < 6)) × Groups (now gs) × (at + 116 ≤ length (now plan)) ⌝ }
+    requires { ⌜ ((settings .gender < 3) × (settings .number < 2) × (settings .case < 6)) × Groups22 (now gs) × (at + 116 ≤ length (now plan)) ⌝ }
     ensures { λ r. ⌜ Spoken 116 (now (plan .entry)) at (now (plan .exit)) r (ordinalWords (settings .gender) (settings .number) (settings .case) (now (gs .entry))) ⌝ }
 {
     let ending = ordinal::ending(ordinal::is_soft(gs[0]), settings);
@@ -123,7 +122,7 @@ fn say_era(early: bool, plan: &mut [u32], at: usize) -> usize
 
 // The plan of an ordinal under these settings: it says the ordinal's words, joined.
 pub fn plan_ordinal(settings: Settings, gs: &[u16; 22], plan: &mut [u32]) -> usize
-    requires { ⌜ ((settings .gender < 3) × (settings .number < 2) × (settings .case < 6)) × Groups (now gs) × (116 ≤ length (now plan)) ⌝ }
+    requires { ⌜ ((settings .gender < 3) × (settings .number < 2) × (settings .case < 6)) × Groups22 (now gs) × (116 ≤ length (now plan)) ⌝ }
     ensures { λ r. ⌜ (r ≤ 116) × (phrase (says (now (plan .exit)) r) ≡ joined (ordinalWords (settings .gender) (settings .number) (settings .case) (now (gs .entry)))) ⌝ }
 {
     say_ordinal(settings, gs, plan, 0)
@@ -131,7 +130,7 @@ pub fn plan_ordinal(settings: Settings, gs: &[u16; 22], plan: &mut [u32]) -> usi
 
 // The plan of a year under these settings, from the groups of its magnitude; early is whether it is 0 or below.
 pub fn plan_year(settings: Settings, early: bool, gs: &[u16; 22], plan: &mut [u32]) -> usize
-    requires { ⌜ ((settings .gender < 3) × (settings .number < 2) × (settings .case < 6)) × Groups (now gs) × (119 ≤ length (now plan)) ⌝ }
+    requires { ⌜ ((settings .gender < 3) × (settings .number < 2) × (settings .case < 6)) × Groups22 (now gs) × (119 ≤ length (now plan)) ⌝ }
     ensures { λ r. ⌜ (r ≤ 119) × (phrase (says (now (plan .exit)) r) ≡ joined (yearWords (settings .number) (settings .case) early (now (gs .entry)))) ⌝ }
 {
     let masculine = Settings {

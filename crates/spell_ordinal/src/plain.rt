@@ -1,8 +1,8 @@
 // The lowest group at order 0, and zero: words whose last carries the ending.
-use crate::pieces::ON;
-use crate::pieces::SPACE;
-use crate::pieces::say;
 use phrase::push;
+use spell_uk::ON;
+use spell_uk::SPACE;
+use spell_uk::say;
 ghost use mathlib.Core.Path.{_≡_};
 ghost use mathlib.Core.List.{[], _∷_, _++_};
 ghost use Prim.Native.Nat.{_+_, _/_, _%_, _≤_, _<_};

@@ -2,7 +2,7 @@
 use phrase::push;
 use uk::Settings;
 ghost use mathlib.Core.Path.{_≡_};
-ghost use Prim.Native.Nat.{ℕ, _+_, _*_, _≤_, _<_};
+ghost use Prim.Native.Nat.{_+_, _*_, _≤_, _<_};
 ghost use mathlib.Core.List.{[], _∷_};
 ghost use lib.ListN.{length, getD};
 ghost use Rattle.base.specs.Join.{joined};
@@ -15,10 +15,12 @@ ghost use Rattle.uk.specs.Ukrainian.{ukrainian};
 ghost use Rattle.uk.specs.Columns.{Column};
 ghost use Rattle.uk.specs.Cardinal.{groupOf, groupsBelow, signWords, cardinalWords};
 
-const SPACE: u8 = 32;
+// The separators of a plan's words: a space, or none where a word goes on.
+pub const SPACE: u8 = 32;
 
-const ON: u8 = 0;
+pub const ON: u8 = 0;
 
+// A small number, widened.
 fn wide(id: u8) -> u16
     ensures { λ r. ⌜ r ≡ id ⌝ }
 {
@@ -26,7 +28,7 @@ fn wide(id: u8) -> u16
 }
 
 // Adds the word of a column's place to the plan.
-fn say(ids: &[u8], place: usize, separator: u8, plan: &mut [u32], at: usize) -> usize
+pub fn say(ids: &[u8], place: usize, separator: u8, plan: &mut [u32], at: usize) -> usize
     requires { ⌜ (place < length (now ids)) × (at < length (now plan)) ⌝ }
     ensures { λ r. ⌜ Added 1 (now (plan .entry)) at (now (plan .exit)) r ((separator, text (getD (now (ids .entry)) place 0)) ∷ []) ⌝ }
 {

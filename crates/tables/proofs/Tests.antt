@@ -1,13 +1,10 @@
--- Tests that antt computes, and what each gives: of every number in a range, and of two texts.
+-- Tests that antt computes of every number in a range, and what each gives.
 -- Assumes nothing.
 use Prim.Native.Nat.{ℕ, zero, suc, _+_, _<_, _≤_}
 use mathlib.Core.Path.{_≡_, refl, sym, ap, _∙_, subst}
 use mathlib.Core.Bool.{Bool, true, false, _&&_}
-use mathlib.Core.List.{List, [], _∷_}
 use native.Mathlib.Omega.{arith}
 use native.Mathlib.Decide.{ℕ-discrete}
-use borrow.Author.Tests.{eqb-true}
-use lib.Dec.{eqb}
 
 pub clash : {A : Type 0} → true ≡ false → A
 clash e = let z : _≡_ {A = ℕ} 0 1 = cc in absurd (omega arith)
@@ -33,16 +30,3 @@ all-at lo (suc n) f t i l h = go (ℕ-discrete i (lo + n)) (all-at lo n f (and-r
     go : Dec (i ≡ lo + n) → (i < lo + n → f i ≡ true) → f i ≡ true
     go (yes e) r = subst (λ (x : ℕ). f x ≡ true) (sym e) (and-left (f (lo + n)) (all lo n f) t)
     go (no e) r = r (omega arith)
-
--- two texts are the same
-abbrev pub same : List ℕ → List ℕ → Bool
-same [] [] = true
-same [] (b ∷ s) = false
-same (a ∷ w) [] = false
-same (a ∷ w) (b ∷ s) = eqb a b && same w s
-
-pub same-is : (w s : List ℕ) → same w s ≡ true → w ≡ s
-same-is [] [] e = refl
-same-is [] (b ∷ s) e = clash (sym e)
-same-is (a ∷ w) [] e = clash (sym e)
-same-is (a ∷ w) (b ∷ s) e = rw (eqb-true a b (and-left (eqb a b) (same w s) e), same-is w s (and-right (eqb a b) (same w s) e)) refl

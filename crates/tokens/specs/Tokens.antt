@@ -13,11 +13,12 @@ use Rattle.base.specs.Join.{Word}
 abbrev pub isGap : ℕ → Bool
 isGap b = eqb b 32 || eqb b 45
 
--- the first word of a text, and what stands behind it and its gap
+-- the first word of a text
 unfoldable pub firstWord : List ℕ → Word
 firstWord [] = []
 firstWord (b ∷ s) = cond (isGap b) [] (b ∷ firstWord s)
 
+-- what stands behind it and the gap that ends it
 unfoldable pub afterWord : List ℕ → List ℕ
 afterWord [] = []
 afterWord (b ∷ s) = cond (isGap b) s (afterWord s)
@@ -32,11 +33,12 @@ unfoldable pub split : List ℕ → List Word
 split [] = []
 split (b ∷ s) = cond (isGap b) ([] ∷ split s) (toFirst b (split s))
 
--- a number below 65536 by which words are told apart: in it no two words of a language have one number unless they mean the same
+-- a number below 65536 made of a word's bytes, from the number h on
 unfoldable pub keyFrom : ℕ → Word → ℕ
 keyFrom h [] = h
 keyFrom h (b ∷ w) = keyFrom ((h * 371 + b) % 65536) w
 
+-- the number by which a reader knows a word: no two number words of a language have one unless they mean the same
 abbrev pub key : Word → ℕ
 key w = keyFrom 0 w
 

@@ -1,8 +1,8 @@
 // A text taken word by word: the first word's key, and where the next word starts.
 ghost use mathlib.Core.Path.{_≡_};
 ghost use Prim.Native.Nat.{_+_, _*_, _%_, _≤_, _<_};
-ghost use lib.ListN.{length, drop};
-ghost use Rattle.tokens.specs.Tokens.{isGap, firstWord, afterWord, key, Begun, Turned};
+ghost use lib.ListN.{length};
+ghost use Rattle.tokens.specs.Tokens.{isGap, Begun, Took, Turned};
 
 // The key of a text's first word, and how many bytes the word and the gap behind it have.
 pub struct Token {
@@ -83,8 +83,7 @@ fn four(s: &[u8], i: usize, h: u32) -> Turn
 // The end of a text's first word, which has the key h before i.
 fn last(s: &[u8], i: usize, h: u32) -> Token
     requires { ⌜ (i ≤ length (now s)) × (h < 65536) × Begun (now s) i h ⌝ }
-    ensures { λ r. ⌜ (r .key ≡ key (firstWord (now (s .entry)))) × (r .key < 65536) ⌝ }
-    ensures { λ r. ⌜ (drop (r .next) (now (s .entry)) ≡ afterWord (now (s .entry))) × (r .next ≤ length (now (s .entry))) × (0 < length (now (s .entry)) → 0 < r .next) ⌝ }
+    ensures { λ r. ⌜ Took (now (s .entry)) (r .key) (r .next) ⌝ }
 {
     let mut k = h;
     let mut j = i;
@@ -104,8 +103,7 @@ fn last(s: &[u8], i: usize, h: u32) -> Token
 
 // The first word of a text. Four bytes a turn: the loop is where a reader spends its time.
 pub fn first(s: &[u8]) -> Token
-    ensures { λ r. ⌜ (r .key ≡ key (firstWord (now (s .entry)))) × (r .key < 65536) ⌝ }
-    ensures { λ r. ⌜ (drop (r .next) (now (s .entry)) ≡ afterWord (now (s .entry))) × (r .next ≤ length (now (s .entry))) × (0 < length (now (s .entry)) → 0 < r .next) ⌝ }
+    ensures { λ r. ⌜ Took (now (s .entry)) (r .key) (r .next) ⌝ }
 {
     let n = s.len();
     let fours = n - n % 4;

@@ -12,8 +12,10 @@ use Rattle.base.specs.Utf8.{utf8, form1, form2, form3}
 use Rattle.base.specs.Bank.{textIn}
 use Rattle.bank_uk.specs.Names.{names}
 use Rattle.words.specs.Text.{text}
-use Rattle.tables.proofs.Tests.{and-left, and-right, all, all-at, same, same-is}
-use Rattle.uk.specs.UkTables.{zeros, gendered, units, teenBases, teenFlexions, tens, hundreds, thousandFlexions, megaBases, megaFlexions}
+use Rattle.base.specs.Same.{sameText}
+use Rattle.base.proofs.Same.{same-is}
+use Rattle.tables.proofs.Tests.{and-left, and-right, all, all-at}
+use Rattle.uk.specs.UkTables.{zeros, gendered, units, teensBases, teensFlexions, tens, hundreds, thousandFlexions, megaBases, megaFlexions}
 use Rattle.uk.specs.Ukrainian.{unitForm}
 use Rattle.uk.specs.Columns.{ending, Column}
 use Rattle.uk.proofs.Ids.{table}
@@ -21,7 +23,7 @@ use Rattle.uk.proofs.Ids.{table}
 -- the place r of the column l has the word w
 entry : List ℕ → ℕ → List ℕ → Bool
 unfolding text textIn names
-entry l r w = same (text (getD l r 0)) w
+entry l r w = sameText (text (getD l r 0)) w
 
 holds : (l : List ℕ) (r : ℕ) (w : List ℕ) → entry l r w ≡ true → text (getD l r 0) ≡ w
 unfolding entry
@@ -31,7 +33,7 @@ abbrev unit? : List ℕ → ℕ → Bool
 unit? l c = all 0 3 (λ g. all 1 9 (λ u. entry l (9 * g + u) (unitForm g c u)))
 
 abbrev teen? : List ℕ → ℕ → Bool
-teen? l c = all 10 10 (λ v. entry l (18 + v) (form1 teenBases (v - 10)))
+teen? l c = all 10 10 (λ v. entry l (18 + v) (form1 teensBases (v - 10)))
 
 abbrev ten? : List ℕ → ℕ → Bool
 ten? l c = all 2 8 (λ t. entry l (36 + t) (form2 tens (t - 2) c))
@@ -49,14 +51,14 @@ abbrev stem? : List ℕ → ℕ → Bool
 stem? l c = all 1 21 (λ k. entry l (63 + k) (form1 megaBases (k - 1)))
 
 abbrev one? : List ℕ → ℕ → Bool
-one? l c = eqb (length l) 85 && (entry l 61 (form1 zeros c) && (entry l 62 (utf8 "мінус") && entry l 63 (form1 teenFlexions c)))
+one? l c = eqb (length l) 85 && (entry l 61 (form1 zeros c) && (entry l 62 (utf8 "мінус") && entry l 63 (form1 teensFlexions c)))
 
 -- a test of every case
 abbrev cases : (List ℕ → ℕ → Bool) → Bool
 cases f = all 0 6 (λ c. f (getD table c []) c)
 
 passes : (cases unit? ≡ true) × (cases teen? ≡ true) × (cases ten? ≡ true) × (cases hundred? ≡ true) × (cases thousand? ≡ true) × (cases mega? ≡ true) × (cases stem? ≡ true) × (cases one? ≡ true)
-unfolding entry unitForm ending form1 form2 form3 zeros gendered units teenBases teenFlexions tens hundreds thousandFlexions megaBases megaFlexions
+unfolding entry unitForm ending form1 form2 form3 zeros gendered units teensBases teensFlexions tens hundreds thousandFlexions megaBases megaFlexions
 passes = (refl, refl, refl, refl, refl, refl, refl, refl)
 
 module _ (c : ℕ) (h : c < 6) where
@@ -70,10 +72,10 @@ module _ (c : ℕ) (h : c < 6) where
   one : one? l c ≡ true
   one = at one? (passes .7)
 
-  one₁ : (entry l 61 (form1 zeros c) && (entry l 62 (utf8 "мінус") && entry l 63 (form1 teenFlexions c))) ≡ true
+  one₁ : (entry l 61 (form1 zeros c) && (entry l 62 (utf8 "мінус") && entry l 63 (form1 teensFlexions c))) ≡ true
   one₁ = and-right (eqb (length l) 85) _ one
 
-  one₂ : (entry l 62 (utf8 "мінус") && entry l 63 (form1 teenFlexions c)) ≡ true
+  one₂ : (entry l 62 (utf8 "мінус") && entry l 63 (form1 teensFlexions c)) ≡ true
   one₂ = and-right (entry l 61 (form1 zeros c)) _ one₁
 
   pub columns : Column c (getD table c [])
@@ -83,13 +85,13 @@ module _ (c : ℕ) (h : c < 6) where
     unitAt = λ g u i a b. holds l (9 * g + u) (unitForm g c u)
         (all-at 1 9 (λ u. entry l (9 * g + u) (unitForm g c u))
         (all-at 0 3 (λ g. all 1 9 (λ u. entry l (9 * g + u) (unitForm g c u))) (at unit? (passes .0)) g (omega arith) (omega arith)) u a (omega arith));
-    teenAt = λ v a b. holds l (18 + v) (form1 teenBases (v - 10)) (all-at 10 10 (λ v. entry l (18 + v) (form1 teenBases (v - 10))) (at teen? (passes .1)) v a (omega arith));
+    teenAt = λ v a b. holds l (18 + v) (form1 teensBases (v - 10)) (all-at 10 10 (λ v. entry l (18 + v) (form1 teensBases (v - 10))) (at teen? (passes .1)) v a (omega arith));
     tenAt = λ t a b. holds l (36 + t) (form2 tens (t - 2) c) (all-at 2 8 (λ t. entry l (36 + t) (form2 tens (t - 2) c)) (at ten? (passes .2)) t a (omega arith));
     hundredAt = λ h a b. holds l (45 + h) (form2 hundreds (h - 1) c) (all-at 1 9 (λ h. entry l (45 + h) (form2 hundreds (h - 1) c)) (at hundred? (passes .3)) h a (omega arith));
     thousandAt = λ a i. holds l (55 + a) (ending thousandFlexions a c) (all-at 0 3 (λ a. entry l (55 + a) (ending thousandFlexions a c)) (at thousand? (passes .4)) a (omega arith) (omega arith));
     megaAt = λ a i. holds l (58 + a) (ending megaFlexions a c) (all-at 0 3 (λ a. entry l (58 + a) (ending megaFlexions a c)) (at mega? (passes .5)) a (omega arith) (omega arith));
     zeroAt = holds l 61 (form1 zeros c) (and-left (entry l 61 (form1 zeros c)) _ one₁);
     minusAt = holds l 62 (utf8 "мінус") (and-left (entry l 62 (utf8 "мінус")) _ one₂);
-    teenEndAt = holds l 63 (form1 teenFlexions c) (and-right (entry l 62 (utf8 "мінус")) _ one₂);
+    teenEndAt = holds l 63 (form1 teensFlexions c) (and-right (entry l 62 (utf8 "мінус")) _ one₂);
     stemAt = λ k a b. holds l (63 + k) (form1 megaBases (k - 1)) (all-at 1 21 (λ k. entry l (63 + k) (form1 megaBases (k - 1))) (at stem? (passes .6)) k a (omega arith));
   }

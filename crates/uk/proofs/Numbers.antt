@@ -10,14 +10,14 @@ use lib.Arith.{mod-mul}
 use lib.ListN.{getD}
 use Rattle.base.specs.Join.{Word}
 use Rattle.uk.specs.Rules.{Words, groupWords}
-use Rattle.uk.specs.Grammar.{Falling, end, over, group as group-of}
+use Rattle.uk.specs.Grammar.{Falling, end, skip, group as group-of}
 use Rattle.uk.specs.Cardinal.{groupOf, groupsBelow}
 
 module _ (W : Words) where
   -- one group, and what is below it
   one : (k g : ℕ) {ws : List Word} {n : ℕ} → g < 1000 → Falling W k ws n → Falling W (suc k) (groupOf W k g ++ ws) (g * 1000 ^ k + n)
   unfolding groupOf
-  one k zero {ws} {n} l f = let e : 0 * 1000 ^ k + n ≡ n = omega arith in subst (Falling W (suc k) ws) (sym e) (over f)
+  one k zero {ws} {n} l f = let e : 0 * 1000 ^ k + n ≡ n = omega arith in subst (Falling W (suc k) ws) (sym e) (skip f)
   one k (suc g) {ws} {n} l f =
       let e : 100 * (suc g / 100 % 10) + 10 * (suc g / 10 % 10) + suc g % 10 ≡ suc g = omega arith in
       let v : (100 * (suc g / 100 % 10) + 10 * (suc g / 10 % 10) + suc g % 10) * 1000 ^ k + n ≡ suc g * 1000 ^ k + n = ap (λ (x : ℕ). x * 1000 ^ k + n) e in

@@ -8,12 +8,12 @@ use native.Mathlib.Omega.{arith}
 use lib.Arith.{digits-lt, digits-div, digits-mod}
 use Rattle.base.specs.Join.{Word}
 use Rattle.uk.specs.Rules.{Words, groupWords}
-use Rattle.uk.specs.Grammar.{Falling, end, over, group as group-of}
+use Rattle.uk.specs.Grammar.{Falling, end, skip, group as group-of}
 
 module _ (W : Words) where
   pub falling-below : {k : ℕ} {ws : List Word} {n : ℕ} → Falling W k ws n → n < 1000 ^ k
   falling-below end = omega arith
-  falling-below (over {k = k} {n = n} f) = let h = falling-below f in rw (pow-succ' 1000 k) (omega arith)
+  falling-below (skip {k = k} {n = n} f) = let h = falling-below f in rw (pow-succ' 1000 k) (omega arith)
   falling-below (group-of {k = k} {n = n} h t u a b c o f) = rw (pow-succ' 1000 k) (digits-lt (omega arith) (falling-below f))
 
   -- the group of an order and what is below it, from the value
@@ -26,10 +26,10 @@ module _ (W : Words) where
 
   pub one-phrase : {k : ℕ} {us ws : List Word} {m n : ℕ} → Falling W k us m → Falling W k ws n → m ≡ n → us ≡ ws
   one-phrase end end e = refl
-  one-phrase (over f) (over f′) e = one-phrase f f′ e
-  one-phrase (over {k = k} {n = m} f) (group-of {n = n} h t u a b c o f′) e =
+  one-phrase (skip f) (skip f′) e = one-phrase f f′ e
+  one-phrase (skip {k = k} {n = m} f) (group-of {n = n} h t u a b c o f′) e =
       absurd (omega (arith, none-parts k m (100 * h + 10 * t + u) n (falling-below f) (falling-below f′) e))
-  one-phrase (group-of {k = k} {n = m} h t u a b c o f) (over {n = n} f′) e =
+  one-phrase (group-of {k = k} {n = m} h t u a b c o f) (skip {n = n} f′) e =
       absurd (omega (arith, none-parts k n (100 * h + 10 * t + u) m (falling-below f′) (falling-below f) (sym e)))
   one-phrase (group-of {k = k} {ws = us} {n = m} h t u a b c o f) (group-of {ws = ws} {n = n} h′ t′ u′ a′ b′ c′ o′ f′) e =
       let p = parts k (100 * h + 10 * t + u) m (100 * h′ + 10 * t′ + u′) n (falling-below f) (falling-below f′) e in
@@ -42,4 +42,4 @@ module _ (W : Words) where
 
   pub none-at : (k : ℕ) → Falling W k [] 0
   none-at zero = end
-  none-at (suc k) = over (none-at k)
+  none-at (suc k) = skip (none-at k)

@@ -22,7 +22,8 @@ abbrev pub signWords : Words → Bool → List Word
 signWords W true = W .minusWord ∷ []
 signWords W false = []
 
--- zero's word; else the minus word if negative, and the groups
+-- "Zero is the word of `ZERO`. Otherwise: `мінус` if negative, then nonzero groups": of a number with the groups gs, whether it is zero, and
+-- whether it is negative
 unfoldable pub cardinalWords : Words → Bool → Bool → List ℕ → List Word
 cardinalWords W true minus gs = W .zeroWord ∷ []
 cardinalWords W false minus gs = signWords W minus ++ groupsBelow W 22 gs

@@ -3,14 +3,14 @@
 use mathlib.Core.Path.{_≡_}
 use mathlib.Core.Bool.{Bool, true, false}
 use mathlib.Core.List.{List, [], _∷_, _++_}
-use Prim.Native.Nat.{ℕ, zero, suc, _+_, _*_, _^_, _<_}
+use Prim.Native.Nat.{ℕ, suc, _+_, _*_, _^_, _<_}
 use Rattle.base.specs.Join.{Word, joined}
 use Rattle.uk.specs.Rules.{Words, groupWords}
 
 -- groups of strictly falling order below k, and the sum of their values, each times 1000 to the power of its order
 pub data Falling (W : Words) : ℕ → List Word → ℕ → Type 0 where
   end : Falling W 0 [] 0
-  over : {k : ℕ} {ws : List Word} {n : ℕ} → Falling W k ws n → Falling W (suc k) ws n
+  skip : {k : ℕ} {ws : List Word} {n : ℕ} → Falling W k ws n → Falling W (suc k) ws n
   group : {k : ℕ} {ws : List Word} {n : ℕ} (h t u : ℕ) → h < 10 → t < 10 → u < 10 → 0 < 100 * h + 10 * t + u → Falling W k ws n
       → Falling W (suc k) (groupWords W k h t u ++ ws) ((100 * h + 10 * t + u) * 1000 ^ k + n)
 

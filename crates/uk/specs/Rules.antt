@@ -1,11 +1,11 @@
--- The words of one setting, and the words of a group of three digits. Speller and grammar both rest on these.
+-- The words of one setting, and the words of a group of three digits (01, "Ukrainian cardinals"). Speller and grammar both rest on these.
 -- Assumes nothing.
 use Prim.Native.Nat.{ℕ, zero, suc, _+_}
 use mathlib.Core.List.{List, [], _∷_, _++_}
 use Rattle.base.specs.Join.{Word}
 
--- hundreds by digit 1 to 9, tens by digit 2 to 9, teens by value 10 to 19, units by order and digit 1 to 9,
--- scale nouns by order and by the tens and units digits that they agree with
+-- the words of one gender and case: hundreds by digit 1 to 9, tens by digit 2 to 9, teens by value 10 to 19, units by order and
+-- digit 1 to 9, scale nouns by order and by the tens and units digits that they agree with
 pub record Words : Type 0 where
   pub zeroWord : Word
   pub minusWord : Word
@@ -15,7 +15,7 @@ pub record Words : Type 0 where
   pub unit : ℕ → ℕ → Word
   pub noun : ℕ → ℕ → ℕ → Word
 
--- no word for the digit 0
+-- the word of a digit "if any": none for 0
 abbrev pub opt : (ℕ → Word) → ℕ → List Word
 opt w zero = []
 opt w (suc d) = w (suc d) ∷ []

@@ -7,7 +7,7 @@ use mathlib.Core.List.{_++_}
 use lib.Dec.{eqb, ltb}
 use Rattle.base.specs.Join.{Word}
 use Rattle.base.specs.Utf8.{utf8, form1, form2, form3}
-use Rattle.uk.specs.UkTables.{zeros, gendered, units, teenBases, teenFlexions, tens, hundreds, thousandFlexions, megaBases, megaFlexions}
+use Rattle.uk.specs.UkTables.{zeros, gendered, units, teensBases, teensFlexions, tens, hundreds, thousandFlexions, megaBases, megaFlexions}
 use Rattle.uk.specs.Rules.{Words}
 
 -- the gender of units 1 and 2: the caller's at order 0, feminine at order 1, masculine above
@@ -22,13 +22,13 @@ unitForm gender case u = cond (ltb u 3) (form3 gendered (u - 1) gender case) (fo
 
 -- a teen by its value 10 to 19
 unfoldable pub teenForm : ℕ → ℕ → Word
-teenForm case v = form1 teenBases (v - 10) ++ form1 teenFlexions case
+teenForm case v = form1 teensBases (v - 10) ++ form1 teensFlexions case
 
 -- agreement with the tens t and the units u: units 0 or above 4, or tens 1
 abbrev pub many : ℕ → ℕ → Bool
 many t u = (eqb u 0 || ltb 4 u) || eqb t 1
 
--- plural; else for units 1 singular; else plural
+-- with many, plural; else for units 1 singular; else plural
 abbrev pub agreedNumber : ℕ → ℕ → ℕ
 agreedNumber t u = cond (many t u) 1 (cond (eqb u 1) 0 1)
 

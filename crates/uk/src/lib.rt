@@ -1,4 +1,5 @@
-// Ukrainian: the settings, the numbers of the words by case and place, and the two rules that the code decides. Speller and reader see the contracts alone.
+// Ukrainian: the settings, the numbers of the words by case and place, and the two rules that the code decides. Speller and reader see the
+// contracts alone.
 mod rows; // rows.rt: the numbers of the words, a row for each case
 
 use crate::rows::IDS;

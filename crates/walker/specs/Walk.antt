@@ -9,7 +9,7 @@ use Rattle.tokens.specs.Tokens.{firstWord, afterWord, key}
 use Rattle.tokens.specs.declared.Token.{Token}
 use Rattle.walker.specs.declared.Found.{Found}
 
--- whether a word follows
+-- whether a word stands at this place
 abbrev pub follows : List ℕ → ℕ → Bool
 follows s at = ltb at (length s)
 
@@ -17,10 +17,10 @@ follows s at = ltb at (length s)
 abbrev pub span : List ℕ → ℕ
 span s = length s - length (afterWord s)
 
--- the word that follows
+-- the word at this place: its key, and how far on the next one starts
 abbrev pub wordAt : List ℕ → ℕ → Token
 wordAt s at = record { key = key (firstWord (drop at s)); next = span (drop at s) }
 
--- both
+-- both in one
 abbrev pub found : List ℕ → ℕ → Found
 found s at = record { more = follows s at; key = wordAt s at .key; next = wordAt s at .next }

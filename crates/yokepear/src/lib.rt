@@ -1,13 +1,14 @@
-// The calls for a host in C. Each hands on to the crate of its kind; the contracts say all that a host may rely on, and ask nothing of it.
+// The calls for a host in C. Each hands on to the crate of its kind. The contracts say all that a host may rely on, and have no `requires`: of the
+// host it is asked only, as of any caller in Rattle, that out does not overlap what is read (include/yokepear.h).
 use base::Answer;
 ghost use Rattle.base.specs.Answer.{replied, Answers, ReadsUnless};
+ghost use Rattle.uk.specs.Settings.{unlessSettings};
 ghost use Rattle.calls_uk.specs.Cardinals.{refusedCardinal, refusedSetting, cardinal, Means};
 ghost use Rattle.calls_fr.specs.Calls.{french, settingsRefusal, cardinalRefusal, ordinalRefusal, firstRefusal, cardinalOf, ordinalOf, CardinalMeans, OrdinalMeans};
-ghost use Rattle.money.specs.Currencies.{currencyAt};
-ghost use Rattle.money.specs.Codes.{placeOf};
+ghost use Rattle.money.specs.Codes.{currencyOf};
 ghost use Rattle.calls_money.specs.MoneyCalls.{refusedCode, refusedAmount, moneyPhrase, Means as MoneyMeans};
 ghost use Rattle.ordinal.specs.DigitOrdinal.{digitOrdinal};
-ghost use Rattle.calls_ordinal.specs.Calls.{unlessSettings, ordinalText, digitOrdinalText, ordinalPhrase, yearPhrase};
+ghost use Rattle.calls_ordinal.specs.Calls.{refusedOrdinal, refusedDigitOrdinal, ordinalPhrase, yearPhrase};
 
 // The cardinal of a number text.
 #[no_mangle]
@@ -46,7 +47,7 @@ pub extern "C" fn yokepear_uk_to_ordinal(
     text: &[u8],
     out: &mut [u8],
 ) -> Answer
-    ensures { λ r. ⌜ Answers r (now (out .entry)) (now (out .exit)) (replied (unlessSettings gender number case (ordinalText (now (text .entry)))) (ordinalPhrase gender number case (now (text .entry))) (now (out .entry))) ⌝ }
+    ensures { λ r. ⌜ Answers r (now (out .entry)) (now (out .exit)) (replied (unlessSettings gender number case (refusedOrdinal (now (text .entry)))) (ordinalPhrase gender number case (now (text .entry))) (now (out .entry))) ⌝ }
 {
     calls_ordinal::to_ordinal(gender, number, case, text, out)
 }
@@ -60,7 +61,7 @@ pub extern "C" fn yokepear_uk_to_ordinal_num(
     text: &[u8],
     out: &mut [u8],
 ) -> Answer
-    ensures { λ r. ⌜ Answers r (now (out .entry)) (now (out .exit)) (replied (unlessSettings gender number case (digitOrdinalText (now (text .entry)))) (digitOrdinal gender number case (now (text .entry))) (now (out .entry))) ⌝ }
+    ensures { λ r. ⌜ Answers r (now (out .entry)) (now (out .exit)) (replied (unlessSettings gender number case (refusedDigitOrdinal (now (text .entry)))) (digitOrdinal gender number case (now (text .entry))) (now (out .entry))) ⌝ }
 {
     calls_ordinal::to_ordinal_num(gender, number, case, text, out)
 }
@@ -89,7 +90,7 @@ pub extern "C" fn yokepear_uk_to_currency(
     text: &[u8],
     out: &mut [u8],
 ) -> Answer
-    ensures { λ r. ⌜ Answers r (now (out .entry)) (now (out .exit)) (replied (refusedAmount gender number case (now (code .entry)) (now (text .entry))) (moneyPhrase (currencyAt (placeOf (now (code .entry)))) case (now (text .entry))) (now (out .entry))) ⌝ }
+    ensures { λ r. ⌜ Answers r (now (out .entry)) (now (out .exit)) (replied (refusedAmount gender number case (now (code .entry)) (now (text .entry))) (moneyPhrase (currencyOf (now (code .entry))) case (now (text .entry))) (now (out .entry))) ⌝ }
 {
     calls_money::to_currency(gender, number, case, code, text, out)
 }
@@ -104,7 +105,7 @@ pub extern "C" fn yokepear_uk_from_currency(
     phrase: &[u8],
     out: &mut [u8],
 ) -> Answer
-    ensures { λ r. ⌜ ReadsUnless (refusedCode gender number case (now (code .entry))) (MoneyMeans (currencyAt (placeOf (now (code .entry)))) case) (now (phrase .entry)) r (now (out .entry)) (now (out .exit)) ⌝ }
+    ensures { λ r. ⌜ ReadsUnless (refusedCode gender number case (now (code .entry))) (MoneyMeans (currencyOf (now (code .entry))) case) (now (phrase .entry)) r (now (out .entry)) (now (out .exit)) ⌝ }
 {
     calls_money::from_currency(gender, number, case, code, phrase, out)
 }

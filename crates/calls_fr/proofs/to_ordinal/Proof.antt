@@ -4,7 +4,7 @@ use borrow.Author.Needs.{needs}
 use native.Mathlib.Omega.{arith}
 use mathlib.Core.Path.{_≡_, sym, ap, _∙_}
 use mathlib.Core.Bool.{false}
-use Rattle.figures.specs.Refusals.{numberOf}
+use Rattle.figures.specs.Refusals.{refusalOf}
 use Rattle.calls_fr.specs.Calls.{french, ordinalRefusal}
 use Rattle.calls_fr.proofs.Theorems.{ranges, admitted}
 use Rattle.calls_fr.proofs.Answers.{refuses-text, refuses-settings, answers-text}
@@ -13,7 +13,7 @@ use Rattle.calls_fr.proofs.to_ordinal.Tie as tie
 
 -- the text's refusal
 judged : (c : tie.After-number-of) → c .number-of .result ≡ ordinalRefusal (c .before .before .before .before .before .before .args .text .now)
-judged c = c .number-of .ensures ∙ ap numberOf (c .before .judge .ensures)
+judged c = c .number-of .ensures ∙ ap refusalOf (c .before .judge .ensures)
 
 pub to-ordinal-spec : {M : Type 1} → statement M
 to-ordinal-spec =

@@ -4,7 +4,7 @@ use mathlib.Core.Path.{_≡_, sym, _∙_, subst}
 use native.Mathlib.Omega.{arith}
 use borrow.Author.Needs.{needs}
 use denote.Ref.{now}
-use Rattle.spell_ordinal.specs.Groups.{Groups}
+use Rattle.spell_ordinal.specs.Groups.{Groups22}
 use Rattle.calls_ordinal.proofs.Replies.{heard}
 use Rattle.calls_ordinal.proofs.Admitted.{groups, ordinal-said}
 use Rattle.calls_ordinal.proofs.say_ordinal.Statement.{statement}
@@ -21,5 +21,5 @@ pub say-ordinal-spec : {M : Type 1} → statement M
 say-ordinal-spec =
     tie.close
     (tie.spec (λ c κs. c .before .before .pre .1) (λ c. search needs)
-    (λ c κs. let s = c .before .before .before .before .before in (s .pre .0, subst Groups (sym (c .before .before .groups22 .ensures)) (groups _), search needs))
+    (λ c κs. let s = c .before .before .before .before .before in (s .pre .0, subst Groups22 (sym (c .before .before .groups22 .ensures)) (groups _), search needs))
     (λ c. search needs) (λ c κs. let p = c .before .before .before .plan-ordinal in (omega (arith, p .ensures .0, p .kept .1 .1 .0), omega (arith, p .ensures .0))) (λ c. search needs) returns)

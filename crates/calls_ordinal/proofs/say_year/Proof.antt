@@ -8,7 +8,7 @@ use lib.IntN.{natAbs}
 use mir.Facts.{toZ-ofZ}
 use Rattle.figures.specs.Groups.{groupsOf}
 use Rattle.ordinal.specs.Year.{early}
-use Rattle.spell_ordinal.specs.Groups.{Groups}
+use Rattle.spell_ordinal.specs.Groups.{Groups22}
 use Rattle.calls_ordinal.proofs.Replies.{heard}
 use Rattle.calls_ordinal.proofs.Admitted.{groups, year-said}
 use Rattle.calls_ordinal.proofs.say_year.Statement.{statement}
@@ -28,5 +28,5 @@ pub say-year-spec : {M : Type 1} → statement M
 say-year-spec =
     tie.close
     (tie.spec (λ c κs. search needs) (λ c. search needs) (λ c κs. search needs) (λ c κs. search needs) (λ c. search needs)
-    (λ c κs. let s = c .before .before .before .before .before .before .before .before in (s .pre, subst Groups (sym (groups-are (c .before .before .before))) (groups _), search needs))
+    (λ c κs. let s = c .before .before .before .before .before .before .before .before in (s .pre, subst Groups22 (sym (groups-are (c .before .before .before))) (groups _), search needs))
     (λ c. search needs) (λ c κs. let p = c .before .before .before .plan-year in (omega (arith, p .ensures .0, p .kept .1 .1 .1 .0), omega (arith, p .ensures .0))) (λ c. search needs) returns)

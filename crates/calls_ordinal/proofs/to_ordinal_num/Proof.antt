@@ -4,7 +4,8 @@ use mathlib.Core.Path.{_≡_, refl, sym, _∙_}
 use native.Mathlib.Omega.{arith}
 use borrow.Author.Needs.{needs}
 use denote.Ref.{now}
-use Rattle.calls_ordinal.specs.Calls.{unlessSettings, digitOrdinalText}
+use Rattle.uk.specs.Settings.{unlessSettings}
+use Rattle.calls_ordinal.specs.Calls.{refusedDigitOrdinal}
 use Rattle.calls_ordinal.proofs.Replies.{said, refusal}
 use Rattle.calls_ordinal.proofs.Admitted.{unrefused, digit-ordinal-digits}
 use Rattle.calls_ordinal.proofs.to_ordinal_num.Statement.{statement}
@@ -13,7 +14,7 @@ use Rattle.calls_ordinal.proofs.to_ordinal_num.Tie as tie
 say-requires : tie.Need-say-requires
 say-requires c κs =
     let a = c .before .before .before .before .before .before .args in
-    let z = unrefused (a .gender) (a .number) (a .case) (digitOrdinalText (now (a .text))) (sym (c .before .before .before .refuse-digit-ordinal .ensures) ∙ c .before .before .if1 .taken) in
+    let z = unrefused (a .gender) (a .number) (a .case) (refusedDigitOrdinal (now (a .text))) (sym (c .before .before .before .refuse-digit-ordinal .ensures) ∙ c .before .before .if1 .taken) in
     let q = c .before .settings-of .ensures in
     let d = digit-ordinal-digits (now (a .text)) (z .1) in
     ((omega (arith, q .0, z .0 .0), omega (arith, q .1, z .0 .1), omega (arith, q .2, z .0 .2)), d .0, d .1, d .2)

@@ -8,7 +8,7 @@ use mathlib.Core.Path.{_≡_, refl, sym, ap, _∙_}
 use lib.Dec.{leb, ltb}
 use lib.ListN.{length}
 use borrow.Author.Tests.{ltb-false, le-ltb}
-use Rattle.figures.specs.Refusals.{numberOf, judged, judgeDigits}
+use Rattle.figures.specs.Refusals.{refusalOf, judged, judgeDigits}
 use Rattle.figures.specs.Text.{plain, value, negative, unsigned, wellFormed}
 use Rattle.figures.specs.declared.Judged.{Judged}
 use Rattle.figures.specs.declared.Judged.the-variants.{Fine, Malformed, Negative, Large}
@@ -45,7 +45,7 @@ module _ (s : List ℕ) (limit : ℕ) where
           absurd (omega arith)
 
 -- nothing is refused where 01's number is 0
-pub number-zero : (j : Judged) → numberOf j ≡ 0 → j ≡ Fine
+pub number-zero : (j : Judged) → refusalOf j ≡ 0 → j ≡ Fine
 number-zero Fine e = refl
 number-zero Malformed e = absurd (omega arith)
 number-zero Negative e = absurd (omega arith)

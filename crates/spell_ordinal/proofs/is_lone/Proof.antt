@@ -6,7 +6,7 @@ use native.Mathlib.Omega.{arith}
 use borrow.Author.Needs.{needs}
 use lib.Dec.{eqb}
 use lib.ListN.{getD, drop}
-use Rattle.ordinal.specs.Ordinal.{zeros}
+use Rattle.ordinal.specs.Ordinal.{allZero}
 use Rattle.spell_ordinal.specs.Groups.{sumOf}
 use Rattle.spell_ordinal.proofs.Orders.{sum-lone}
 use Rattle.spell_ordinal.proofs.is_lone.Statement.{statement}
@@ -18,7 +18,7 @@ returns c =
     let gs = s .args .gs .now in
     let e = s .pre .2 in
     ap (λ n. eqb n (getD gs (s .args .order) 0)) (c .before .sum .ensures)
-    ∙ subst (λ k. eqb (sumOf gs) (getD gs k 0) ≡ zeros (drop (suc k) gs)) (sym e) (sum-lone gs (omega (arith, s .pre .0 .count, s .pre .1, e)))
+    ∙ subst (λ k. eqb (sumOf gs) (getD gs k 0) ≡ allZero (drop (suc k) gs)) (sym e) (sum-lone gs (omega (arith, s .pre .0 .count, s .pre .1, e)))
 
 pub is-lone-spec : {M : Type 1} → statement M
 is-lone-spec =

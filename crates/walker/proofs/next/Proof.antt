@@ -1,4 +1,5 @@
--- `walker::next` meets its contract: a walk of its MIR, by hand. The walker is taken apart, and `word_at` is called on the slice and the number. All that the proof knows of `word_at` is that it meets its contract.
+-- `walker::next` meets its contract: a walk of its MIR, by hand. The walker is taken apart, and `word_at` is called on the slice and the
+-- number. All that the proof knows of `word_at` is that it meets its contract.
 -- Assumes nothing.
 use mathlib.Core.Path.{_≡_, refl}
 use mathlib.Core.List.{[], _∷_}

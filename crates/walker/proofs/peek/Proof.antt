@@ -1,4 +1,5 @@
--- `walker::peek` meets its contract: a walk of its MIR, by hand. The walker is taken apart, and `follows_at` is called on the slice and the number. All that the proof knows of `follows_at` is that it meets its contract.
+-- `walker::peek` meets its contract: a walk of its MIR, by hand. The walker is taken apart, and `follows_at` is called on the slice and the
+-- number. All that the proof knows of `follows_at` is that it meets its contract.
 -- Assumes nothing.
 use mathlib.Core.Path.{_≡_, refl}
 use mathlib.Core.Bool.{Bool}

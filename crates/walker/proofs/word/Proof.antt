@@ -1,5 +1,7 @@
--- `walker::word` meets its contract: a walk of its MIR, by hand. The walker that `start` returns is held in a local and passed to `peek` and to `next`, and their answers are put together. All that the proof knows of the three is that each meets its contract.
--- In a local of a body MIR erases the lifetime of the walker's type, so its value is shown to have the type at `erased`: what it owns does not say the lifetime's name.
+-- `walker::word` meets its contract: a walk of its MIR, by hand. The walker that `start` returns is held in a local and passed to `peek` and to
+-- `next`, and their answers are put together. All that the proof knows of the three is that each meets its contract.
+-- In a local of a body MIR erases the lifetime of the walker's type, so its value is shown to have the type at `erased`: what it owns does not say
+-- the lifetime's name.
 -- Assumes nothing.
 use mathlib.Core.Path.{_≡_, refl, ap}
 use Prim.Native.Nat.{ℕ, _<_, _^_}

@@ -6,7 +6,7 @@ use borrow.Author.Needs.{needs}
 use mir.Facts.{toZ-ofZ}
 use mir.Syntax.{w64}
 use mir.Val.{SFits}
-use Rattle.figures.specs.Refusals.{judgeYear, numberOf as refusalOf}
+use Rattle.figures.specs.Refusals.{judgeYear, refusalOf}
 use Rattle.figures.specs.Year.{yearOf}
 use Rattle.calls_ordinal.specs.Calls.{yearPhrase}
 use Rattle.answers.proofs.Laws.{small-number, told-line, told-refusal, judged-small, year-fine, year-asked}

@@ -8,13 +8,14 @@ use mathlib.Core.List.{List, [], _∷_}
 use native.Mathlib.Omega.{arith}
 use borrow.Author.Needs.{needs}
 use Rattle.base.specs.Utf8.{utf8}
-use Rattle.forms.specs.Line.{same, caseOf, placeIn}
+use Rattle.base.specs.Same.{sameText}
+use Rattle.forms.specs.Line.{caseOf, placeIn}
 use Rattle.forms.proofs.Words.{early3, late3, counted3, at-most-3}
 use Rattle.forms.proofs.names.case_of.Statement.{statement}
 use Rattle.forms.proofs.names.case_of.Tie as tie
 
 abbrev is : String → List ℕ → Bool
-is name s = same (utf8 name) s
+is name s = sameText (utf8 name) s
 
 pub case-of-spec : {M : Type 1} → statement M
 unfolding caseOf

@@ -1,8 +1,9 @@
 -- `forms::names::feminine_of` meets its contract.
 -- Assumes nothing.
 use borrow.Author.Needs.{needs}
+use Rattle.base.specs.Same.{sameText}
 use Rattle.base.specs.Utf8.{utf8}
-use Rattle.forms.specs.Line.{same, feminineOf}
+use Rattle.forms.specs.Line.{feminineOf}
 use Rattle.forms.proofs.Words.{counted2}
 use Rattle.forms.proofs.names.feminine_of.Statement.{statement}
 use Rattle.forms.proofs.names.feminine_of.Tie as tie
@@ -12,4 +13,4 @@ unfolding feminineOf
 feminine-of-spec =
     tie.close
     (tie.spec (λ c. search needs) (λ c. search needs) (λ c κs. search needs)
-    (λ c. let s = c .before .before .before .before .args .s .now in counted2 (same (utf8 "m") s) (same (utf8 "f") s) _ (c .place2 .ensures)))
+    (λ c. let s = c .before .before .before .before .args .s .now in counted2 (sameText (utf8 "m") s) (sameText (utf8 "f") s) _ (c .place2 .ensures)))

@@ -1,8 +1,9 @@
 -- `forms::names::is` meets its contract.
 -- Assumes nothing.
-use mathlib.Core.Path.{_≡_, _∙_}
+use mathlib.Core.Path.{_≡_, sym, _∙_}
 use borrow.Author.Needs.{needs}
-use Rattle.forms.proofs.Words.{same-front, other-length}
+use Rattle.base.proofs.Same.{other-length}
+use Rattle.forms.proofs.Words.{same-front}
 use Rattle.forms.proofs.names.is.Statement.{statement}
 use Rattle.forms.proofs.names.is.Tie as tie
 
@@ -11,4 +12,4 @@ is-spec =
     tie.close
     (tie.spec (λ c κs. search needs)
     (λ c. let a = c .before .before .before .before .args in c .front .ensures ∙ same-front (a .w .now) (a .s .now) (c .before .if1 .taken))
-    (λ c. let a = c .before .before .before .args in other-length (a .w .now) (a .s .now) (c .if1 .left)))
+    (λ c. let a = c .before .before .before .args in sym (other-length (a .w .now) (a .s .now) (c .if1 .left))))

@@ -1,8 +1,9 @@
 -- `forms::names::region_of` meets its contract.
 -- Assumes nothing.
 use borrow.Author.Needs.{needs}
+use Rattle.base.specs.Same.{sameText}
 use Rattle.base.specs.Utf8.{utf8}
-use Rattle.forms.specs.Line.{same, regionOf}
+use Rattle.forms.specs.Line.{regionOf}
 use Rattle.forms.proofs.Words.{counted3}
 use Rattle.forms.proofs.names.region_of.Statement.{statement}
 use Rattle.forms.proofs.names.region_of.Tie as tie
@@ -12,4 +13,4 @@ unfolding regionOf
 region-of-spec =
     tie.close
     (tie.spec (λ c. search needs) (λ c. search needs) (λ c. search needs) (λ c κs. search needs)
-    (λ c. let s = c .before .before .before .before .before .args .s .now in counted3 (same (utf8 "FR)") s) (same (utf8 "BE)") s) (same (utf8 "CH)") s) _ (c .place3 .ensures)))
+    (λ c. let s = c .before .before .before .before .before .args .s .now in counted3 (sameText (utf8 "FR)") s) (sameText (utf8 "BE)") s) (sameText (utf8 "CH)") s) _ (c .place3 .ensures)))
