@@ -26,7 +26,7 @@ use Rattle.forms.specs.Line.{first, rest, kindOf, languageOf, genderOf, grammat
 use Rattle.forms.specs.declared.Kind.{Kind}
 use Rattle.forms.specs.declared.Language.{Language}
 use Rattle.forms.specs.declared.Language.the-variants.{Ukrainian, French}
-use Rattle.answers.specs.Answers.{told, badLine, ukrainian, frenchForm, settled, answerLine}
+use Rattle.answers.specs.Answers.{told, badLine, ukrainianForm, frenchForm, settled, answerLine}
 use Rattle.answers.specs.Wrote.{Wrote}
 
 -- what a line's writer promises, without the record
@@ -131,7 +131,7 @@ year-asked g n c t y i e a = rw (i, e) at a
 -- from the settings' words to the form
 module _ (k : Kind) (s t : List ℕ) (x y z r : ℕ) (xs ys : List ℕ) where
   pub settle-uk : x ≡ genderOf (first s) → y ≡ grammaticalNumberOf (first (rest s)) → z ≡ caseOf (first (rest (rest s))) → t ≡ rest (rest (rest s))
-      → inRange x y z ≡ true → Wrote (ukrainian k x y z t) r xs ys → Wrote (settled k Ukrainian s) r xs ys
+      → inRange x y z ≡ true → Wrote (ukrainianForm k x y z t) r xs ys → Wrote (settled k Ukrainian s) r xs ys
   unfolding settled
   settle-uk ex ey ez et i w = rw (← ex, ← ey, ← ez, ← et, i) w
 

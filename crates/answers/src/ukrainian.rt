@@ -15,7 +15,7 @@ ghost use Rattle.forms.specs.declared.Language.the-variants.{Ukrainian as Ukrai
 ghost use Rattle.figures.specs.Refusals.{judgeYear, refusalOf};
 ghost use Rattle.figures.specs.Year.{yearOf};
 ghost use Rattle.calls_ordinal.specs.Calls.{yearPhrase};
-ghost use Rattle.answers.specs.Answers.{told, amount as amountForm, ukrainian as ukrainianForm, settled};
+ghost use Rattle.answers.specs.Answers.{told, amountForm, ukrainianForm, settled};
 ghost use Rattle.answers.specs.Wrote.{Wrote};
 
 // A cardinal's form.

@@ -10,13 +10,13 @@ use Rattle.uk.specs.Settings.{inRange}
 use Rattle.money.specs.Codes.{isCode, currencyOf}
 use Rattle.calls_money.specs.MoneyCalls.{refusedAmount, moneyPhrase}
 use Rattle.forms.specs.Line.{run, inner, closed}
-use Rattle.answers.specs.Answers.{amount}
+use Rattle.answers.specs.Answers.{amountForm}
 use Rattle.answers.proofs.Laws.{small-number, spoken, unspoken, judged-small, cond-small, closed-some}
 use Rattle.answers.proofs.ukrainian.amount.Statement.{statement}
 use Rattle.answers.proofs.ukrainian.amount.Tie as tie
 
 pub amount-spec : {M : Type 1} → statement M
-unfolding amount
+unfolding amountForm
 amount-spec =
     tie.close
     (tie.spec (λ c κs. search needs) (λ c κs. search needs)

@@ -9,13 +9,13 @@ use Rattle.figures.specs.Refusals.{judgeDigits}
 use Rattle.uk.specs.Settings.{inRange}
 use Rattle.calls_uk.specs.Cardinals.{refusedCardinal, cardinal}
 use Rattle.forms.specs.Line.{inner, closed}
-use Rattle.answers.specs.Answers.{ukrainian}
+use Rattle.answers.specs.Answers.{ukrainianForm}
 use Rattle.answers.proofs.Laws.{small-number, spoken, unspoken, judged-small, cond-small, closed-some}
 use Rattle.answers.proofs.ukrainian.card.Statement.{statement}
 use Rattle.answers.proofs.ukrainian.card.Tie as tie
 
 pub card-spec : {M : Type 1} → statement M
-unfolding ukrainian
+unfolding ukrainianForm
 card-spec =
     tie.close
     (tie.spec (λ c κs. search needs)

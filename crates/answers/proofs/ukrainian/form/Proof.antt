@@ -1,12 +1,12 @@
 -- `answers::ukrainian::form` meets its contract.
 -- Assumes nothing.
 use borrow.Author.Needs.{needs}
-use Rattle.answers.specs.Answers.{ukrainian}
+use Rattle.answers.specs.Answers.{ukrainianForm}
 use Rattle.answers.proofs.ukrainian.form.Statement.{statement}
 use Rattle.answers.proofs.ukrainian.form.Tie as tie
 
 pub form-spec : {M : Type 1} → statement M
-unfolding ukrainian
+unfolding ukrainianForm
 form-spec =
     tie.close
     (tie.spec

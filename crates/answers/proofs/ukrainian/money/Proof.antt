@@ -4,13 +4,13 @@ use mathlib.Core.Path.{_≡_, refl, sym, ap, _∙_}
 use native.Mathlib.Omega.{arith}
 use borrow.Author.Needs.{needs}
 use lib.ListN.{length-take}
-use Rattle.answers.specs.Answers.{ukrainian}
+use Rattle.answers.specs.Answers.{ukrainianForm}
 use Rattle.answers.proofs.Laws.{tail}
 use Rattle.answers.proofs.ukrainian.money.Statement.{statement}
 use Rattle.answers.proofs.ukrainian.money.Tie as tie
 
 pub money-spec : {M : Type 1} → statement M
-unfolding ukrainian
+unfolding ukrainianForm
 money-spec =
     tie.close
     (tie.spec (λ c κs. search needs)

@@ -9,13 +9,13 @@ use Rattle.uk.specs.Settings.{inRange, unlessSettings}
 use Rattle.ordinal.specs.DigitOrdinal.{digitOrdinal}
 use Rattle.calls_ordinal.specs.Calls.{refusedDigitOrdinal}
 use Rattle.forms.specs.Line.{inner, closed}
-use Rattle.answers.specs.Answers.{ukrainian}
+use Rattle.answers.specs.Answers.{ukrainianForm}
 use Rattle.answers.proofs.Laws.{small-number, spoken, unspoken, judged-small, cond-small, closed-some}
 use Rattle.answers.proofs.ukrainian.num.Statement.{statement}
 use Rattle.answers.proofs.ukrainian.num.Tie as tie
 
 pub num-spec : {M : Type 1} → statement M
-unfolding ukrainian
+unfolding ukrainianForm
 num-spec =
     tie.close
     (tie.spec (λ c κs. search needs)

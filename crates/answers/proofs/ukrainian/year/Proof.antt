@@ -5,13 +5,13 @@ use native.Mathlib.Omega.{arith}
 use borrow.Author.Needs.{needs}
 use lib.ListN.{length-take}
 use Rattle.forms.specs.Line.{closed}
-use Rattle.answers.specs.Answers.{ukrainian}
+use Rattle.answers.specs.Answers.{ukrainianForm}
 use Rattle.answers.proofs.Laws.{spoken-as, unspoken, closed-some}
 use Rattle.answers.proofs.ukrainian.year.Statement.{statement}
 use Rattle.answers.proofs.ukrainian.year.Tie as tie
 
 pub year-spec : {M : Type 1} → statement M
-unfolding ukrainian
+unfolding ukrainianForm
 year-spec =
     tie.close
     (tie.spec (λ c κs. search needs)
