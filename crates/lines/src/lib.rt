@@ -46,7 +46,7 @@ fn take_byte(b: u8, line: &mut [u8], held: usize, out: &mut [u8], used: usize) -
 }
 
 // Reads a block until it ends, or until out may not hold the next answer; n bytes of a line are held from before. Of a line longer than 512 bytes the
-// first 513 are held: they tell that it is too long.
+// first 513 are held: they tell that it is too long. Where out has room for an answer, a byte at least is read.
 pub fn feed(block: &[u8], line: &mut [u8], n: usize, out: &mut [u8]) -> Fed
     requires { ⌜ (n ≤ 513) × (length (now line) ≡ 513) × (isLine (take n (now line)) ≡ true) ⌝ }
     ensures { λ r. ⌜ (r .at ≤ length (now (block .entry))) × (r .held ≤ 513) × (r .used ≤ length (now (out .entry))) ⌝ }
