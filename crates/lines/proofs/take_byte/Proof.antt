@@ -24,7 +24,7 @@ returns c =
     let fits : a .used + length (answerLine p) ≤ length (a .out .now) = omega (arith, k .0 .0, k .1) in (
       (omega arith, omega arith, omega (arith, k .1)),
       (
-        refl,
+        search needs,
         (
           rw (k .0 .1) (kept-before (a .out .now) (answerLine p) (a .used) fits),
           rw (k .0 .0, k .0 .1) (ended p (a .b) (s .pre .2) _ (b .before .before .before .if1 .taken) (told-behind (a .out .now) (answerLine p) (a .used) fits)),
