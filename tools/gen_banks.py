@@ -1,94 +1,147 @@
 #!/usr/bin/env python3
-# gen_banks.py [NAME..]: writes the code and the proofs of the crates bank_NAME from the words that their specs/Names.antt lists.
-# Run by hand after a change of such a list; what it writes is committed (run `rt fmt` afterwards).
+# gen_banks.py: writes the code and the proofs of the crates bank_* from the words that their specs/Names.antt lists, and those of `fixed`
+# for the lengths that these words have. Run by hand after a change of such a list; what it writes is committed (run `rt fmt` afterwards).
 import os
 import re
 import shutil
-import sys
 
 ROOT = os.path.join(os.path.dirname(os.path.abspath(__file__)), '..', 'crates')
 PART = 16  # arms in one function: the check of a match over byte strings grows with the square of its arms
-PASSES = '    ensures { λ r. ⌜ r ≡ passed (textIn names id) (now (s .entry)) ⌝ }\n'
-ENSURES = '    ensures { λ r. ⌜ (r ≡ length (textIn names id)) × (now (out .exit) ≡ over (now (out .entry)) (textIn names id)) ⌝ }\n'
-
-
-def names_of(crate):
-    text = open(os.path.join(ROOT, crate, 'specs', 'Names.antt'), encoding='utf8').read()
-    return re.findall(r'"([^"]*)"', text[text.index('names ='):])
-
-
-def byte_string(word):
-    return 'b"' + ''.join('\\x%02x' % b for b in word.encode()) + '"'
+WRITES = '    ensures { λ r. ⌜ (r ≡ length %s) × (now (out .exit) ≡ over (now (out .entry)) %s) ⌝ }\n'
+PASSES = '    ensures { λ r. ⌜ r ≡ passed %s (now (s .entry)) ⌝ }\n'
+TEXT = '(textIn names id)'
+NEEDS = 'use borrow.Author.Needs.{needs}\n'
 
 
 def before(n):
     return ' '.join(['.before'] * n)
 
 
-class Bank:
+def ghosts(*uses):
+    return ''.join('ghost use %s;\n' % use for use in uses)
+
+
+class Crate:
     def __init__(self, crate):
         self.crate = crate
-        self.names = names_of(crate)
-        self.count = len(self.names)
-        self.sizes = [len(n.encode()) for n in self.names]
-        self.parts = [list(range(max(1, lo), min(self.count, lo + PART))) for lo in range(0, self.count, PART)]
 
     def write(self, path, text):
         path = os.path.join(ROOT, self.crate, path)
         os.makedirs(os.path.dirname(path), exist_ok=True)
-        open(path, 'w', encoding='utf8').write(text)
+        with open(path, 'w', encoding='utf8') as file:
+            file.write(text)
 
-    def ghosts(self):
-        return '''ghost use mathlib.Core.Path.{_≡_};
-ghost use Prim.Native.Nat.{_≤_, _<_};
-ghost use lib.ListN.{length};
-ghost use Rattle.base.specs.Bank.{textIn};
-ghost use Rattle.base.specs.Buffer.{over};
-ghost use Rattle.base.specs.Front.{passed};
-ghost use Rattle.%s.specs.Names.{names};
-''' % self.crate
+    def remove(self, path):
+        shutil.rmtree(os.path.join(ROOT, self.crate, path), ignore_errors=True)
 
-    def parts_source(self):
-        out = '''// The texts as byte strings, by their numbers, in functions of %d arms: one function of all would take the check too long.
-// The last arm of each is for no number. It returns no constant: so the compiler keeps each text's stores in its own arm.
-use base::front;
-use bytes::copy;
+    # the proof of a function from what is written for each of its needs
+    def proof(self, path, uses, lines, comment='', unfolding=''):
+        dotted = path.replace('/', '.')
+        name = path.split('/')[-1].replace('_', '-')
+        self.write('proofs/%s/Proof.antt' % path, '''-- `%s::%s` meets its contract%s.
+-- Assumes nothing.
+%suse Rattle.%s.proofs.%s.Statement.{statement}
+use Rattle.%s.proofs.%s.Tie as tie
 
-%s''' % (PART, self.ghosts())
-        for i in range(1, self.count):
-            out += '\nconst W%d: [u8; %d] = *%s; // %s\n' % (i, self.sizes[i], byte_string(self.names[i]), self.names[i])
-        for size in sorted(set(self.sizes[1:])):
-            out += '''
-fn put_%02d(w: [u8; %d], out: &mut [u8]) -> usize
+pub %s-spec : {M : Type 1} → statement M
+%s%s-spec =
+    tie.close
+    (tie.spec
+    %s)
+''' % (self.crate, path.replace('/', '::'), comment, uses, self.crate, dotted, self.crate, dotted, name,
+       'unfolding %s\n' % unfolding if unfolding else '', name, '\n    '.join(lines)))
+
+
+class Fixed(Crate):
+    def generate(self, sizes):
+        self.remove('proofs')
+        self.remove('src')
+        self.write('proofs/Lib.antt', '')
+        self.write('src/lib.rt', '''// Texts of fixed lengths, written and compared: from a length that it knows the compiler makes a few loads and stores.
+pub mod passes; // passes.rt: one function for each length that compares
+pub mod puts; // puts.rt: one for each that writes
+''')
+        puts = '// Writes a text of a fixed length over the front of a buffer.\nuse bytes::copy;\n\n'
+        puts += ghosts('mathlib.Core.Path.{_≡_}', 'Prim.Native.Nat.{_≤_}', 'lib.ListN.{length}', 'Rattle.base.specs.Buffer.{over}')
+        passes = '// One more than a fixed length, where a phrase begins with the text of that length; else 0.\nuse base::front;\n\n'
+        passes += ghosts('mathlib.Core.Path.{_≡_}', 'Rattle.base.specs.Front.{passed}')
+        for size in sizes:
+            puts += '''
+pub fn put_%02d(w: [u8; %d], out: &mut [u8]) -> usize
     requires { ⌜ length w ≤ length (now out) ⌝ }
-    ensures { λ r. ⌜ (r ≡ length w) × (now (out .exit) ≡ over (now (out .entry)) w) ⌝ }
-{
+%s{
     copy(&w, out)
 }
-
-fn pass_%02d(w: [u8; %d], s: &[u8]) -> usize
-    ensures { λ r. ⌜ r ≡ passed w (now (s .entry)) ⌝ }
-{
+''' % (size, size, WRITES % ('w', 'w'))
+            passes += '''
+pub fn pass_%02d(w: [u8; %d], s: &[u8]) -> usize
+%s{
     if front(&w, s) { %d } else { 0 }
 }
-''' % (size, size, size, size, size + 1)
-        for j, part in enumerate(self.parts):
-            out += '\npub fn part%d(id: u32, out: &mut [u8]) -> usize\n    requires { ⌜ (%d ≤ id) × ((id < %d) × (length (textIn names id) ≤ length (now out))) ⌝ }\n' % (j, j * PART, j * PART + PART)
-            out += ENSURES + '{\n    match id {\n'
-            for i in part:
-                out += '        %d => put_%02d(W%d, out),\n' % (i, self.sizes[i], i)
-            out += '        _ => %s,\n    }\n}\n' % ('0' if j == len(self.parts) - 1 else 'id as usize')
-            out += '\npub fn front%d(id: u32, s: &[u8]) -> usize\n    requires { ⌜ (%d ≤ id) × (id < %d) ⌝ }\n' % (j, j * PART, j * PART + PART)
-            out += PASSES + '{\n    match id {\n'
-            for i in part:
-                out += '        %d => pass_%02d(W%d, s),\n' % (i, self.sizes[i], i)
-            out += '        _ => 1,\n    }\n}\n'
+''' % (size, size, PASSES % 'w', size + 1)
+            self.proof('puts/put_%02d' % size, NEEDS + 'use Rattle.base.proofs.Arms.{whole}\n', [
+                '(λ c. search needs) (λ c κs. search needs) (λ c. search needs)',
+                '(λ c. whole _ (c %s .args .t1) _ _ (c .before .before .copy .ensures))' % before(6)])
+            uses = 'use mathlib.Core.Path.{_≡_, sym, _∙_}\nuse native.Mathlib.Omega.{arith}\nuse lib.ListN.{length}\n' + NEEDS + 'use Rattle.base.proofs.Arms.{front-yes, front-no}\n'
+            self.proof('passes/pass_%02d' % size, uses, [
+                '(λ c. search needs) (λ c κs. search needs)',
+                '(λ c. let l : length (c %s .args .t1) ≡ %d = search needs in front-yes _ _ _ (omega arith) (sym (c .if1 .taken) ∙ c .before .front .ensures))' % (before(4), size),
+                '(λ c. front-no _ _ (sym (c .if1 .left) ∙ c .before .front .ensures))'])
+        self.write('src/puts.rt', puts)
+        self.write('src/passes.rt', passes)
+
+
+class Bank(Crate):
+    def __init__(self, crate):
+        super().__init__(crate)
+        text = open(os.path.join(ROOT, crate, 'specs', 'Names.antt'), encoding='utf8').read()
+        self.head = text.split('\n')[0][3:]
+        self.names = re.findall(r'"([^"]*)"', text[text.index('names ='):])
+        self.count = len(self.names)
+        self.sizes = [len(n.encode()) for n in self.names]
+        self.parts = [list(range(max(1, lo), min(self.count, lo + PART))) for lo in range(0, self.count, PART)]
+        self.own = 'Rattle.%s.specs.Names.{names}' % crate
+
+    def texts_source(self):
+        out = '// %s\n' % self.head
+        for i in range(1, self.count):
+            data = ''.join('\\x%02x' % b for b in self.names[i].encode())
+            out += '\npub const W%d: [u8; %d] = *b"%s"; // %s\n' % (i, self.sizes[i], data, self.names[i])
         return out
 
+    # A function of 16 arms for each part of the bank: `does` is what it does with a text, `takes` its other parameter.
+    def parts_source(self, head, uses, does, takes, requires, ensures, lasts):
+        out = '''// %s in functions of %d arms: one function of all would take the check too long.
+// %s
+use crate::texts;
+
+%s''' % (head, PART, lasts[2], ghosts(*uses))
+        for j, part in enumerate(self.parts):
+            lo, hi = j * PART, j * PART + PART
+            out += '\npub fn part%d(id: u32, %s) -> usize\n    requires { ⌜ %s ⌝ }\n%s{\n    match id {\n' % (j, takes, requires % (lo, hi), ensures % ((TEXT,) * ensures.count('%s')))
+            for i in part:
+                out += '        %d => fixed::%s_%02d(texts::W%d, %s),\n' % (i, does, self.sizes[i], i, takes.split(':')[0])
+            out += '        _ => %s,\n    }\n}\n' % lasts[j == len(self.parts) - 1]
+        return out
+
+    def puts_source(self):
+        return self.parts_source(
+            'Writes the text with a number over the front of a buffer,',
+            ['mathlib.Core.Path.{_≡_}', 'Prim.Native.Nat.{_≤_, _<_}', 'lib.ListN.{length}', 'Rattle.base.specs.Bank.{textIn}', 'Rattle.base.specs.Buffer.{over}', self.own],
+            'puts::put', 'out: &mut [u8]', '(%d ≤ id) × ((id < %d) × (length (textIn names id) ≤ length (now out)))', WRITES,
+            ('id as usize', '0', 'The last arm of each is for no number. It returns no constant: so the compiler keeps each text\'s stores in its own arm.'))
+
+    def passes_source(self):
+        return self.parts_source(
+            'One more than the length of the text with a number, where a phrase begins with it, else 0,',
+            ['mathlib.Core.Path.{_≡_}', 'Prim.Native.Nat.{_≤_, _<_}', 'Rattle.base.specs.Bank.{textIn}', 'Rattle.base.specs.Front.{passed}', self.own],
+            'passes::pass', 's: &[u8]', '(%d ≤ id) × (id < %d)', PASSES, ('1', '1', 'The last arm of each is for no number.'))
+
     def lib_source(self):
-        head = open(os.path.join(ROOT, self.crate, 'specs', 'Names.antt'), encoding='utf8').read().split('\n')[0][3:]
         return '''// %s
-mod parts;
+mod passes; // passes.rt: compares them
+mod puts; // puts.rt: writes them
+mod texts; // texts.rt: the byte strings
 
 %s
 // The length of the text with this number.
@@ -116,124 +169,71 @@ pub fn pass(id: u32, s: &[u8]) -> usize
 %s        _ => 1,
     }
 }
-''' % (head, self.ghosts(),
+''' % (self.head,
+       ghosts('mathlib.Core.Path.{_≡_}', 'Prim.Native.Nat.{_≤_, _<_}', 'lib.ListN.{length}', 'Rattle.base.specs.Bank.{textIn}', 'Rattle.base.specs.Buffer.{over}',
+              'Rattle.base.specs.Front.{passed}', self.own),
        ''.join('        %d => %d,\n' % (i, self.sizes[i]) for i in range(1, self.count)),
-       ENSURES, PART,
-       ''.join('        %d => parts::part%d(id, out),\n' % (j, j) for j in range(len(self.parts))),
-       PASSES, PART,
-       ''.join('        %d => parts::front%d(id, s),\n' % (j, j) for j in range(len(self.parts))))
+       WRITES % (TEXT, TEXT), PART, ''.join('        %d => puts::part%d(id, out),\n' % (j, j) for j in range(len(self.parts))),
+       PASSES % TEXT, PART, ''.join('        %d => passes::part%d(id, s),\n' % (j, j) for j in range(len(self.parts))))
 
-    def proof(self, function, path, uses, body, comment):
-        dotted = path.replace('/', '.')
-        self.write('proofs/%s/Proof.antt' % path, '''-- `%s::%s` meets its contract%s.
--- Assumes nothing.
-%suse Rattle.%s.proofs.%s.Statement.{statement}
-use Rattle.%s.proofs.%s.Tie as tie
-
-pub %s-spec : {M : Type 1} → statement M
-%s''' % (self.crate, path.replace('/', '::'), comment, uses, self.crate, dotted, self.crate, dotted, function.replace('_', '-'), body))
-
-    def part_proof(self, j):
-        part = self.parts[j]
-        needs, tail, seen = [], [], {}
-        for q, i in enumerate(part, 1):
-            call = 'put-%02d' % self.sizes[i]
+    # the calls of a part's arms by their names in a proof, where the second of one name has a 2 after it
+    def calls(self, j, does):
+        seen = {}
+        for q, i in enumerate(self.parts[j], 1):
+            call = '%s-%02d' % (does, self.sizes[i])
             seen[call] = seen.get(call, 0) + 1
-            name = call if seen[call] == 1 else call + str(seen[call])
-            needs.append('(λ c κs. need names (c .before .match .keys%d) (c %s .pre .1 .1))' % (q, before(3)))
-            tail.append('(λ c. search needs) (λ c. gives names _ _ _ (c %s .match .keys%d) (c .before .before .%s .ensures))' % (before(4), q, name))
-        lo, n, last = part[0], len(part), j == len(self.parts) - 1
-        if last:
-            law, end = 'after', '(λ c. after names %d _ %d _ (c .match .rest) (c .before .before .pre .0) (lit≤ tt))' % (lo, n)
-        elif j == 0:
-            law, end = 'first', '(λ c. first names refl _ %d _ (c .match .rest) (c .before .before .pre .1 .0))' % n
-        else:
-            law, end = 'out-of', '(λ c. absurd (out-of %d _ %d (c .match .rest) (c .before .before .pre .0) (c .before .before .pre .1 .0)))' % (lo, n)
-        uses = 'use borrow.Author.Needs.{needs}\n'
-        if last:
-            uses += 'use lib.Dec.{lit≤}\n'
+            yield q, call if seen[call] == 1 else call + str(seen[call])
+
+    # past the arms: no number is left in a part, but for 0 in the first and those past the last text in the last
+    def end(self, j, first, after, below):
+        lo, n = self.parts[j][0], len(self.parts[j])
+        if j == len(self.parts) - 1:
+            return after, 'use lib.Dec.{lit≤}\n', '(λ c. %s names %d _ %d _ (c .match .rest) (c .before .before .pre .0) (lit≤ tt))' % (after, lo, n)
         if j == 0:
-            uses += 'use mathlib.Core.Path.{refl}\n'
-        uses += 'use Rattle.base.specs.Bank.{textIn}\nuse Rattle.base.proofs.Arms.{need, gives, %s}\nuse Rattle.%s.specs.Names.{names}\n' % (law, self.crate)
-        body = 'unfolding textIn names\npart%d-spec =\n    tie.close\n    (tie.spec\n    %s)\n' % (j, '\n    '.join(needs + tail + [end]))
-        self.proof('part%d' % j, 'parts/part%d' % j, uses, body, ': in the arm of a number it writes the text with that number')
+            return first, 'use mathlib.Core.Path.{refl}\n', '(λ c. %s names refl _ %d _ (c .match .rest) (c .before .before .pre %s))' % (first, n, below)
+        return 'out-of', '', '(λ c. absurd (out-of %d _ %d (c .match .rest) (c .before .before .pre .0) (c .before .before .pre %s)))' % (lo, n, below)
 
-    def front_proof(self, j):
-        part = self.parts[j]
-        first, tail, seen = [], [], {}
-        for q, i in enumerate(part, 1):
-            call = 'pass-%02d' % self.sizes[i]
-            seen[call] = seen.get(call, 0) + 1
-            name = call if seen[call] == 1 else call + str(seen[call])
-            first.append('(λ c κs. search needs)')
-            tail.append('(λ c. fronts names _ _ (c .before .match .keys%d) (c .%s .ensures))' % (q, name))
-        lo, n, last = part[0], len(part), j == len(self.parts) - 1
-        uses = 'use borrow.Author.Needs.{needs}\n'
-        if last:
-            law, end = 'after-last', '(λ c. after-last names %d _ %d _ (c .match .rest) (c .before .before .pre .0) (lit≤ tt))' % (lo, n)
-            uses += 'use lib.Dec.{lit≤}\n'
-        elif j == 0:
-            law, end = 'first-front', '(λ c. first-front names refl _ %d _ (c .match .rest) (c .before .before .pre .1))' % n
-            uses += 'use mathlib.Core.Path.{refl}\n'
-        else:
-            law, end = 'out-of', '(λ c. absurd (out-of %d _ %d (c .match .rest) (c .before .before .pre .0) (c .before .before .pre .1)))' % (lo, n)
-        uses += 'use Rattle.base.specs.Bank.{textIn}\nuse Rattle.base.proofs.Arms.{fronts, %s}\nuse Rattle.%s.specs.Names.{names}\n' % (law, self.crate)
-        body = 'unfolding textIn names\nfront%d-spec =\n    tie.close\n    (tie.spec\n    %s)\n' % (j, '\n    '.join(first + tail + [end]))
-        self.proof('front%d' % j, 'parts/front%d' % j, uses, body, ': in the arm of a number it compares with the text with that number')
+    def part_proofs(self, j):
+        names = 'use %s\n' % self.own
+        law, more, end = self.end(j, 'first', 'after', '.1 .0')
+        uses = NEEDS + more + 'use Rattle.base.specs.Bank.{textIn}\nuse Rattle.base.proofs.Arms.{need, gives, %s}\n' % law + names
+        lines = ['(λ c κs. need names (c .before .match .keys%d) (c %s .pre .1 .1))' % (q, before(3)) for q, _ in self.calls(j, 'put')]
+        lines += ['(λ c. search needs) (λ c. gives names _ _ _ (c %s .match .keys%d) (c .before .before .%s .ensures))' % (before(4), q, call) for q, call in self.calls(j, 'put')]
+        self.proof('puts/part%d' % j, uses, lines + [end], ': in the arm of a number it writes the text with that number', 'textIn names')
+        law, more, end = self.end(j, 'first-front', 'after-last', '.1')
+        uses = NEEDS + more + 'use Rattle.base.specs.Bank.{textIn}\nuse Rattle.base.proofs.Arms.{fronts, %s}\n' % law + names
+        lines = ['(λ c κs. search needs)'] * len(self.parts[j])
+        lines += ['(λ c. fronts names _ _ (c .before .match .keys%d) (c .%s .ensures))' % (q, call) for q, call in self.calls(j, 'pass')]
+        self.proof('passes/part%d' % j, uses, lines + [end], ': in the arm of a number it compares with the text with that number', 'textIn names')
 
-    def pass_proof(self):
+    def dispatch_proofs(self):
         n = len(self.parts)
-        uses = 'use borrow.Author.Needs.{needs}\nuse lib.Dec.{lit≤}\nuse Rattle.base.proofs.Arms.{past-last}\nuse Rattle.%s.specs.Names.{names}\n' % self.crate
-        lines = ['(λ c κs. search needs)'] * n + ['(λ c. search needs)'] * n + ['(λ c. past-last names _ %d _ (c .match .rest) (lit≤ tt))' % n]
-        self.proof('pass', 'pass', uses, 'unfolding names\npass-spec =\n    tie.close\n    (tie.spec\n    %s)\n' % '\n    '.join(lines), ': it leaves a number to the part that has it')
-
-    def put_proof(self):
-        n = len(self.parts)
-        uses = 'use borrow.Author.Needs.{needs}\nuse lib.Dec.{lit≤}\nuse Rattle.base.proofs.Arms.{past}\nuse Rattle.%s.specs.Names.{names}\n' % self.crate
-        lines = ['(λ c κs. search needs)'] * n + ['(λ c. search needs) (λ c. search needs)'] * n + ['(λ c. past names _ %d _ (c .match .rest) (lit≤ tt))' % n]
-        self.proof('put', 'put', uses, 'unfolding names\nput-spec =\n    tie.close\n    (tie.spec\n    %s)\n' % '\n    '.join(lines), ': it leaves a number to the part that has it')
+        for function, law, arm in (('put', 'past', '(λ c. search needs) (λ c. search needs)'), ('pass', 'past-last', '(λ c. search needs)')):
+            uses = NEEDS + 'use lib.Dec.{lit≤}\nuse Rattle.base.proofs.Arms.{%s}\nuse %s\n' % (law, self.own)
+            lines = ['(λ c κs. search needs)'] * n + [arm] * n + ['(λ c. %s names _ %d _ (c .match .rest) (lit≤ tt))' % (law, n)]
+            self.proof(function, uses, lines, ': it leaves a number to the part that has it', 'names')
 
     def len_proof(self):
-        uses = 'use mathlib.Core.Path.{refl}\nuse lib.Dec.{lit<, lit≤}\nuse Rattle.base.specs.Bank.{textIn}\nuse Rattle.base.proofs.Arms.{counts, uncounted}\nuse Rattle.%s.specs.Names.{names}\n' % self.crate
+        uses = 'use mathlib.Core.Path.{refl}\nuse lib.Dec.{lit<, lit≤}\nuse Rattle.base.specs.Bank.{textIn}\nuse Rattle.base.proofs.Arms.{counts, uncounted}\nuse %s\n' % self.own
         lines = ['(λ c. counts names _ (c .match .keys%d) (refl, lit< tt))' % i for i in range(1, self.count)]
         lines.append('(λ c. uncounted names refl _ %d (c .match .rest) (lit≤ tt))' % (self.count - 1))
-        self.proof('len', 'len', uses, 'unfolding textIn names\nlen-spec =\n    tie.close\n    (tie.spec\n    %s)\n' % '\n    '.join(lines), ': the number in each arm is the length of its text, as antt computes it')
-
-    def size_proofs(self):
-        for size in sorted(set(self.sizes[1:])):
-            name = 'put_%02d' % size
-            uses = 'use borrow.Author.Needs.{needs}\nuse Rattle.base.proofs.Arms.{whole}\n'
-            body = '''put-%02d-spec =
-    tie.close
-    (tie.spec (λ c. search needs) (λ c κs. search needs) (λ c. search needs)
-    (λ c. whole _ (c %s .args .t1) _ _ (c .before .before .copy .ensures)))
-''' % (size, before(6))
-            self.proof(name, 'parts/' + name, uses, body, '')
-            name = 'pass_%02d' % size
-            uses = 'use mathlib.Core.Path.{_≡_, refl, sym, _∙_}\nuse native.Mathlib.Omega.{arith}\nuse lib.ListN.{length}\nuse borrow.Author.Needs.{needs}\nuse Rattle.base.proofs.Arms.{front-yes, front-no}\n'
-            body = '''pass-%02d-spec =
-    tie.close
-    (tie.spec (λ c. search needs) (λ c κs. search needs)
-    (λ c. let l : length (c %s .args .t1) ≡ %d = search needs in front-yes _ _ _ (omega arith) (sym (c .if1 .taken) ∙ c .before .front .ensures))
-    (λ c. front-no _ _ (sym (c .if1 .left) ∙ c .before .front .ensures)))
-''' % (size, before(4), size)
-            self.proof(name, 'parts/' + name, uses, body, '')
+        self.proof('len', uses, lines, ': the number in each arm is the length of its text, as antt computes it', 'textIn names')
 
     def generate(self):
-        proofs = os.path.join(ROOT, self.crate, 'proofs')
-        if os.path.exists(proofs):
-            shutil.rmtree(proofs)
+        self.remove('proofs')
+        self.remove('src')
         self.write('proofs/Lib.antt', '')
-        self.write('src/parts.rt', self.parts_source())
         self.write('src/lib.rt', self.lib_source())
-        for j in range(len(self.parts)):
-            self.part_proof(j)
-            self.front_proof(j)
-        self.put_proof()
-        self.pass_proof()
+        self.write('src/texts.rt', self.texts_source())
+        self.write('src/puts.rt', self.puts_source())
+        self.write('src/passes.rt', self.passes_source())
         self.len_proof()
-        self.size_proofs()
+        self.dispatch_proofs()
+        for j in range(len(self.parts)):
+            self.part_proofs(j)
 
 
-for crate in sys.argv[1:] or sorted(d for d in os.listdir(ROOT) if d.startswith('bank_')):
-    Bank(crate).generate()
+banks = [Bank(d) for d in sorted(os.listdir(ROOT)) if d.startswith('bank_')]
+Fixed('fixed').generate(sorted({size for bank in banks for size in bank.sizes if size}))
+for bank in banks:
+    bank.generate()

@@ -1,0 +1,131 @@
+// The stems and endings of the Ukrainian ordinals and the words of years as byte strings, by numbers that only the code knows.
+
+pub const W1: [u8; 12] = *b"\xd0\xbd\xd1\x83\xd0\xbb\xd1\x8c\xd0\xbe\xd0\xb2"; // нульов
+
+pub const W2: [u8; 8] = *b"\xd0\xbe\xd0\xb4\xd0\xbd\xd0\xbe"; // одно
+
+pub const W3: [u8; 6] = *b"\xd1\x81\xd0\xbe\xd1\x82"; // сот
+
+pub const W4: [u8; 2] = *b"\xd0\xbd"; // н
+
+pub const W5: [u8; 8] = *b"\xd0\xbf\xd0\xb5\xd1\x80\xd1\x88"; // перш
+
+pub const W6: [u8; 8] = *b"\xd0\xb4\xd1\x80\xd1\x83\xd0\xb3"; // друг
+
+pub const W7: [u8; 8] = *b"\xd1\x82\xd1\x80\xd0\xb5\xd1\x82"; // трет
+
+pub const W8: [u8; 14] = *b"\xd1\x87\xd0\xb5\xd1\x82\xd0\xb2\xd0\xb5\xd1\x80\xd1\x82"; // четверт
+
+pub const W9: [u8; 8] = *b"\xd0\xbf\xca\xbc\xd1\x8f\xd1\x82"; // пʼят
+
+pub const W10: [u8; 8] = *b"\xd1\x88\xd0\xbe\xd1\x81\xd1\x82"; // шост
+
+pub const W11: [u8; 8] = *b"\xd1\x81\xd1\x8c\xd0\xbe\xd0\xbc"; // сьом
+
+pub const W12: [u8; 10] = *b"\xd0\xb2\xd0\xbe\xd1\x81\xd1\x8c\xd0\xbc"; // восьм
+
+pub const W13: [u8; 12] = *b"\xd0\xb4\xd0\xb5\xd0\xb2\xca\xbc\xd1\x8f\xd1\x82"; // девʼят
+
+pub const W14: [u8; 10] = *b"\xd0\xb4\xd0\xb5\xd1\x81\xd1\x8f\xd1\x82"; // десят
+
+pub const W15: [u8; 14] = *b"\xd0\xb4\xd0\xb2\xd0\xb0\xd0\xb4\xd1\x86\xd1\x8f\xd1\x82"; // двадцят
+
+pub const W16: [u8; 14] = *b"\xd1\x82\xd1\x80\xd0\xb8\xd0\xb4\xd1\x86\xd1\x8f\xd1\x82"; // тридцят
+
+pub const W17: [u8; 14] = *b"\xd1\x81\xd0\xbe\xd1\x80\xd0\xbe\xd0\xba\xd0\xbe\xd0\xb2"; // сороков
+
+pub const W18: [u8; 18] =
+    *b"\xd0\xbf\xca\xbc\xd1\x8f\xd1\x82\xd0\xb4\xd0\xb5\xd1\x81\xd1\x8f\xd1\x82"; // пʼятдесят
+
+pub const W19: [u8; 18] =
+    *b"\xd1\x88\xd1\x96\xd1\x81\xd1\x82\xd0\xb4\xd0\xb5\xd1\x81\xd1\x8f\xd1\x82"; // шістдесят
+
+pub const W20: [u8; 16] = *b"\xd1\x81\xd1\x96\xd0\xbc\xd0\xb4\xd0\xb5\xd1\x81\xd1\x8f\xd1\x82"; // сімдесят
+
+pub const W21: [u8; 20] =
+    *b"\xd0\xb2\xd1\x96\xd1\x81\xd1\x96\xd0\xbc\xd0\xb4\xd0\xb5\xd1\x81\xd1\x8f\xd1\x82"; // вісімдесят
+
+pub const W22: [u8; 18] =
+    *b"\xd0\xb4\xd0\xb5\xd0\xb2\xca\xbc\xd1\x8f\xd0\xbd\xd0\xbe\xd1\x81\xd1\x82"; // девʼяност
+
+pub const W23: [u8; 4] = *b"\xd0\xb8\xd0\xb9"; // ий
+
+pub const W24: [u8; 6] = *b"\xd0\xbe\xd0\xb3\xd0\xbe"; // ого
+
+pub const W25: [u8; 6] = *b"\xd0\xbe\xd0\xbc\xd1\x83"; // ому
+
+pub const W26: [u8; 4] = *b"\xd0\xb8\xd0\xbc"; // им
+
+pub const W27: [u8; 2] = *b"\xd0\xb0"; // а
+
+pub const W28: [u8; 4] = *b"\xd0\xbe\xd1\x97"; // ої
+
+pub const W29: [u8; 4] = *b"\xd1\x96\xd0\xb9"; // ій
+
+pub const W30: [u8; 2] = *b"\xd1\x83"; // у
+
+pub const W31: [u8; 4] = *b"\xd0\xbe\xd1\x8e"; // ою
+
+pub const W32: [u8; 2] = *b"\xd0\xb5"; // е
+
+pub const W33: [u8; 2] = *b"\xd1\x96"; // і
+
+pub const W34: [u8; 4] = *b"\xd0\xb8\xd1\x85"; // их
+
+pub const W35: [u8; 6] = *b"\xd0\xb8\xd0\xbc\xd0\xb8"; // ими
+
+pub const W36: [u8; 8] = *b"\xd1\x8c\xd0\xbe\xd0\xb3\xd0\xbe"; // ього
+
+pub const W37: [u8; 8] = *b"\xd1\x8c\xd0\xbe\xd0\xbc\xd1\x83"; // ьому
+
+pub const W38: [u8; 4] = *b"\xd1\x96\xd0\xbc"; // ім
+
+pub const W39: [u8; 2] = *b"\xd1\x8f"; // я
+
+pub const W40: [u8; 6] = *b"\xd1\x8c\xd0\xbe\xd1\x97"; // ьої
+
+pub const W41: [u8; 2] = *b"\xd1\x8e"; // ю
+
+pub const W42: [u8; 6] = *b"\xd1\x8c\xd0\xbe\xd1\x8e"; // ьою
+
+pub const W43: [u8; 2] = *b"\xd1\x94"; // є
+
+pub const W44: [u8; 4] = *b"\xd1\x96\xd1\x85"; // іх
+
+pub const W45: [u8; 6] = *b"\xd1\x96\xd0\xbc\xd0\xb8"; // іми
+
+pub const W46: [u8; 2] = *b"\xd0\xb9"; // й
+
+pub const W47: [u8; 4] = *b"\xd0\xb3\xd0\xbe"; // го
+
+pub const W48: [u8; 4] = *b"\xd0\xbc\xd1\x83"; // му
+
+pub const W49: [u8; 2] = *b"\xd0\xbc"; // м
+
+pub const W50: [u8; 2] = *b"\xd1\x97"; // ї
+
+pub const W51: [u8; 2] = *b"\xd1\x85"; // х
+
+pub const W52: [u8; 4] = *b"\xd0\xbc\xd0\xb8"; // ми
+
+pub const W53: [u8; 6] = *b"\xd1\x80\xd1\x96\xd0\xba"; // рік
+
+pub const W54: [u8; 8] = *b"\xd1\x80\xd0\xbe\xd0\xba\xd1\x83"; // року
+
+pub const W55: [u8; 10] = *b"\xd1\x80\xd0\xbe\xd0\xba\xd0\xbe\xd0\xbc"; // роком
+
+pub const W56: [u8; 8] = *b"\xd1\x80\xd0\xbe\xd1\x86\xd1\x96"; // році
+
+pub const W57: [u8; 8] = *b"\xd1\x80\xd0\xbe\xd0\xba\xd0\xb8"; // роки
+
+pub const W58: [u8; 10] = *b"\xd1\x80\xd0\xbe\xd0\xba\xd1\x96\xd0\xb2"; // років
+
+pub const W59: [u8; 10] = *b"\xd1\x80\xd0\xbe\xd0\xba\xd0\xb0\xd0\xbc"; // рокам
+
+pub const W60: [u8; 12] = *b"\xd1\x80\xd0\xbe\xd0\xba\xd0\xb0\xd0\xbc\xd0\xb8"; // роками
+
+pub const W61: [u8; 10] = *b"\xd1\x80\xd0\xbe\xd0\xba\xd0\xb0\xd1\x85"; // роках
+
+pub const W62: [u8; 4] = *b"\xd0\xb4\xd0\xbe"; // до
+
+pub const W63: [u8; 6] = *b"\xd0\xbd\x2e\xd0\xb5\x2e"; // н.е.
