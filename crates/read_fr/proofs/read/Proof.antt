@@ -35,7 +35,7 @@ loop-again c =
       omega (arith, inv .0),
       (
         r .kept .1 .1 .1 .1 .0 ∙ inv .1 .0,
-        (r .ensures .1 .0, (within c, inv .1 .1 .1 .1 ∙ (rw (z, from-is at s, drop-drop (r .result .next) at s) at (r .ensures .0)))),
+        (omega (arith, r .ensures .1 .0), (within c, inv .1 .1 .1 .1 ∙ (rw (z, from-is at s, drop-drop (r .result .next) at s) at (r .ensures .0)))),
       ),
     )
 
