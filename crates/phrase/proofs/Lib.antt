@@ -3,3 +3,4 @@ pub mod Added
 pub mod Tells
 pub mod Standing
 pub mod Spoken
+pub mod Short

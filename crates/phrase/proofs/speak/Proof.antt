@@ -1,4 +1,4 @@
--- `phrase::speak` meets its contract.
+-- `phrase::speak` meets its contract: what `put` requires is the law that a phrase is short.
 -- Assumes nothing.
 use native.Mathlib.Omega.{arith}
 use mathlib.Core.Path.{_≡_, sym}
@@ -7,19 +7,36 @@ use lib.ListN.{length, take}
 use lib.Seq.{length-take-le}
 use Rattle.phrase.specs.Phrase.{phrase}
 use Rattle.phrase.specs.Plan.{says}
-use Rattle.phrase.proofs.Spoken.{too-long, written}
+use Rattle.phrase.proofs.Short.{says-short}
+use Rattle.phrase.proofs.Spoken.{written}
 use Rattle.phrase.proofs.speak.Statement.{statement}
 use Rattle.phrase.proofs.speak.Tie as tie
 
-pub speak-spec : {M : Type 1} → statement M
+put-requires : tie.Need-put-requires
 unfolding says
+put-requires c κs =
+    let s = c .before .before .before .before .before in
+    omega (arith, says-short (s .args .plan .now) (s .args .n) (s .pre .0), c .before .before .if1 .left)
+
+returns-2 : tie.Need-returns-2
+unfolding says
+returns-2 c =
+    let s = c .before .before .before .before .before .before .before .before in
+    let a = s .args in
+    let p = c .before .before .put in
+    let short = says-short (a .plan .now) (a .n) (s .pre .0) in
+    let left = c .before .before .before .before .before .if1 .left in
+    (written (a .out .now) (phrase (says (a .plan .now) (a .n))) (p .result) (p .ensures .0) _ (omega (arith, p .ensures .0)) (p .ensures .1), omega (arith, p .ensures .0))
+
+pub speak-spec : {M : Type 1} → statement M
 speak-spec =
     tie.close
     (tie.spec
-    (λ c. let s = c .before .before .before in sym (length-take-le (s .args .n) (s .args .plan .now) (s .pre .0)))
-    (λ c κs. let s = c .before .before .before in omega (arith, length-take-le (s .args .n) (s .args .plan .now) (s .pre .0), s .pre .1))
-    (λ c. let a = c .before .before .before .before .before .args in (too-long (a .out .now) (phrase (says (a .plan .now) (a .n))) (c .before .len .result) (c .before .len .ensures .0) (c .if1 .taken), omega (arith, c .before .len .ensures .1, length-take-le (a .n) (a .plan .now) (c .before .before .before .before .before .pre .0))))
-    (λ c. let s = c .before .before .before .before .before .before in sym (length-take-le (s .args .n) (s .args .plan .now) (s .pre .0)))
-    (λ c κs. omega (arith, c .before .before .before .len .ensures .0, c .before .before .if1 .left))
     (λ c. search needs)
-    (λ c. let a = c .before .before .before .before .before .before .before .before .before .before .args in (written (a .out .now) (phrase (says (a .plan .now) (a .n))) (c .before .before .before .before .before .before .len .result) (c .before .before .before .before .before .before .len .ensures .0) _ (c .before .before .before .before .before .if1 .left) (c .before .before .put .ensures .1), omega (arith, c .before .before .before .before .before .before .len .ensures .1, length-take-le (a .n) (a .plan .now) (c .before .before .before .before .before .before .before .before .before .before .pre .0)))))
+    (λ c κs. search needs)
+    (λ c. search needs)
+    (λ c. search needs)
+    (λ c. let s = c .before .before .before .before in sym (length-take-le (s .args .n) (s .args .plan .now) (s .pre .0)))
+    put-requires
+    (λ c. search needs)
+    returns-2)
