@@ -13,7 +13,8 @@ use Rattle.bank_fr.specs.Names.{names}
 use Rattle.words.specs.Text.{text}
 use Rattle.fr.specs.Ordinal.{withoutE}
 use Rattle.fr.specs.Numbered.{Known, Numbered}
-use Rattle.fr.proofs.Tests.{and-left, and-right, all, all-at, below-of, numbered?, numbered}
+use Rattle.tables.proofs.Tests.{all}
+use Rattle.fr.proofs.Tests.{and-left, and-right, all-at, below-of, numbered?, numbered}
 
 -- what a word's stem is to be
 abbrev pub Stem : ℕ → ℕ → Type 0

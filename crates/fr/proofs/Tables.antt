@@ -15,7 +15,8 @@ use Rattle.fr.specs.FrTables.{units, tens, teens, megas}
 use Rattle.fr.specs.Rules.{isReformed, inCH, isMille, joiner, centWord, countsOn, fourTwenties, isUne, unitWord, tenWord, roundWord}
 use Rattle.fr.specs.Numbered.{Numbered}
 use Rattle.fr.specs.declared.French.{French}
-use Rattle.fr.proofs.Tests.{all, all-at, both, both-at, split, numbered?, numbered}
+use Rattle.tables.proofs.Tests.{all}
+use Rattle.fr.proofs.Tests.{all-at, both, both-at, split, numbered?, numbered}
 use Rattle.fr.proofs.Deciders.{mille-not}
 
 -- units, and `une`

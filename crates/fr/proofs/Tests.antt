@@ -1,20 +1,26 @@
 -- Tests that antt computes over numbers and texts, and what each says at one place.
 -- Assumes nothing.
-use Prim.Native.Nat.{ℕ, zero, suc, _+_, _<_, _≤_}
-use mathlib.Core.Path.{_≡_, refl, sym, subst}
+use Prim.Native.Nat.{ℕ, _+_, _<_, _≤_}
+use mathlib.Core.Path.{_≡_, refl}
 use mathlib.Core.Bool.{Bool, true, false, not, _&&_}
-use mathlib.Core.List.{List, [], _∷_}
+use mathlib.Core.List.{List}
 use native.Mathlib.Omega.{arith}
-use native.Mathlib.Decide.{ℕ-discrete}
-use borrow.Author.Tests.{eqb-true, eqb-false, ltb-true, not-true}
+use borrow.Author.Tests.{eqb-false, ltb-true, not-true}
 use lib.Dec.{T, eqb, ltb}
 use Rattle.base.specs.Join.{Word}
+use Rattle.base.specs.Same.{sameText}
+use Rattle.base.proofs.Same.{same-is}
+use Rattle.tables.proofs.Tests.{all, all-at as all-true}
 use Rattle.words.specs.Text.{text}
 use Rattle.fr.specs.Numbered.{Known, Numbered}
 
 pub yes-of : (b : Bool) → T b → b ≡ true
 yes-of true t = refl
 yes-of false t = absurd t
+
+of-yes : (b : Bool) → b ≡ true → T b
+of-yes true e = tt
+of-yes false e = let z : _≡_ {A = ℕ} 0 1 = cc in absurd (omega arith)
 
 pub and-left : (a b : Bool) → T (a && b) → T a
 and-left true b t = tt
@@ -28,18 +34,9 @@ pub split : (a b : Bool) → (a && b) ≡ true → (a ≡ true) × (b ≡ true)
 split true b e = (refl, e)
 split false b e = let z : _≡_ {A = ℕ} 0 1 = cc in absurd (omega arith)
 
--- a test of each of the n numbers from lo on
-abbrev pub all : ℕ → ℕ → (ℕ → Bool) → Bool
-all lo zero f = true
-all lo (suc n) f = f (lo + n) && all lo n f
-
+-- a test of each of the n numbers from lo on, at one of them
 pub all-at : (lo n : ℕ) (f : ℕ → Bool) → T (all lo n f) → (i : ℕ) → lo ≤ i → i < lo + n → T (f i)
-all-at lo zero f t i l h = absurd (omega arith)
-all-at lo (suc n) f t i l h = go (ℕ-discrete i (lo + n)) (all-at lo n f (and-right (f (lo + n)) (all lo n f) t) i l)
-  where
-    go : Dec (i ≡ lo + n) → (i < lo + n → T (f i)) → T (f i)
-    go (yes e) r = subst (λ (x : ℕ). T (f x)) (sym e) (and-left (f (lo + n)) (all lo n f) t)
-    go (no e) r = r (omega arith)
+all-at lo n f t i l h = of-yes (f i) (all-true lo n f (yes-of (all lo n f) t) i l h)
 
 -- a test of both truth values
 abbrev pub both : (Bool → Bool) → Bool
@@ -50,18 +47,8 @@ both-at f t true = and-left (f true) (f false) t
 both-at f t false = and-right (f true) (f false) t
 
 -- the same text
-abbrev pub same : List ℕ → List ℕ → Bool
-same [] [] = true
-same [] (b ∷ s) = false
-same (a ∷ w) [] = false
-same (a ∷ w) (b ∷ s) = eqb a b && same w s
-
-pub same-eq : (w s : List ℕ) → T (same w s) → w ≡ s
-same-eq [] [] t = refl
-same-eq [] (b ∷ s) t = absurd t
-same-eq (a ∷ w) [] t = absurd t
-same-eq (a ∷ w) (b ∷ s) t =
-    rw (eqb-true a b (yes-of (eqb a b) (and-left (eqb a b) (same w s) t)), same-eq w s (and-right (eqb a b) (same w s) t))
+pub same-eq : (w s : List ℕ) → T (sameText w s) → w ≡ s
+same-eq w s t = same-is w s (yes-of (sameText w s) t)
 
 pub below-of : (a b : ℕ) → T (ltb a b) → a < b
 below-of a b t = ltb-true a b (yes-of (ltb a b) t)
@@ -79,10 +66,10 @@ known id t =
     )
 
 abbrev pub numbered? : ℕ → Word → Bool
-numbered? id w = same (text id) w && known? id
+numbered? id w = sameText (text id) w && known? id
 
 pub numbered : (id : ℕ) (w : Word) → T (numbered? id w) → Numbered id w
 numbered id w t = record {
-  says = same-eq (text id) w (and-left (same (text id) w) (known? id) t);
-  known = known id (and-right (same (text id) w) (known? id) t);
+  says = same-eq (text id) w (and-left (sameText (text id) w) (known? id) t);
+  known = known id (and-right (sameText (text id) w) (known? id) t);
 }

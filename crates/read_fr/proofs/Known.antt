@@ -16,23 +16,25 @@ use Rattle.fr.specs.FrTables.{units, tens, teens, megas}
 use Rattle.fr.specs.Rules.{InRange, tenWord, roundWord, link, unitWord, pairWord, lowWords}
 use Rattle.fr.specs.Ordinal.{withoutE, nth}
 use Rattle.fr.specs.declared.French.{French}
-use Rattle.fr.proofs.Tests.{yes-of, and-left, and-right, all, all-at, both, both-at, same, same-eq}
+use Rattle.base.specs.Same.{sameText}
+use Rattle.tables.proofs.Tests.{all}
+use Rattle.fr.proofs.Tests.{yes-of, and-left, and-right, all-at, both, both-at, same-eq}
 use Rattle.read_fr.specs.Reading.{meanings, grow}
 use Rattle.read_fr.proofs.Splits.{closed, sense, Sound, Sounds}
 
 -- a sound word
 sound? : Word → Bool
 unfolding meanings split keyFrom meaningOf keys values others lookup lookupIn nth withoutE
-sound? w = closed w && (closed (nth w) && same (meanings (nth w)) (meanings w))
+sound? w = closed w && (closed (nth w) && sameText (meanings (nth w)) (meanings w))
 
 sound : (w : Word) → T (sound? w) → Sound w
 unfolding sound?
 sound w t =
-    let r = and-right (closed w) (closed (nth w) && same (meanings (nth w)) (meanings w)) t in
+    let r = and-right (closed w) (closed (nth w) && sameText (meanings (nth w)) (meanings w)) t in
     record {
-      alone = yes-of (closed w) (and-left (closed w) (closed (nth w) && same (meanings (nth w)) (meanings w)) t);
-      ended = yes-of (closed (nth w)) (and-left (closed (nth w)) (same (meanings (nth w)) (meanings w)) r);
-      same = same-eq (meanings (nth w)) (meanings w) (and-right (closed (nth w)) (same (meanings (nth w)) (meanings w)) r);
+      alone = yes-of (closed w) (and-left (closed w) (closed (nth w) && sameText (meanings (nth w)) (meanings w)) t);
+      ended = yes-of (closed (nth w)) (and-left (closed (nth w)) (sameText (meanings (nth w)) (meanings w)) r);
+      same = same-eq (meanings (nth w)) (meanings w) (and-right (closed (nth w)) (sameText (meanings (nth w)) (meanings w)) r);
     }
 
 -- a sound word with this meaning alone
@@ -42,13 +44,13 @@ pub record Known (w : Word) (m : ℕ) : Type 0 where
 
 known? : ℕ → Word → Bool
 unfolding meanings split keyFrom meaningOf keys values others lookup lookupIn
-known? m w = sound? w && same (meanings w) (m ∷ [])
+known? m w = sound? w && sameText (meanings w) (m ∷ [])
 
 known : (m : ℕ) (w : Word) → T (known? m w) → Known w m
 unfolding known?
 known m w t = record {
-  sound = sound w (and-left (sound? w) (same (meanings w) (m ∷ [])) t);
-  means = same-eq (meanings w) (m ∷ []) (and-right (sound? w) (same (meanings w) (m ∷ [])) t);
+  sound = sound w (and-left (sound? w) (sameText (meanings w) (m ∷ [])) t);
+  means = same-eq (meanings w) (m ∷ []) (and-right (sound? w) (sameText (meanings w) (m ∷ [])) t);
 }
 
 units-known : T (all 1 9 (λ u. known? u (form1 units (u - 1))))
