@@ -1,6 +1,5 @@
 //! Damaged phrases: never a text unless it is spoken by those very bytes, and then always.
 
-use crate::calls;
 use crate::check::{Checker, Difference};
 use crate::expect;
 use crate::kinds::{all_manners, Kind, Manner, CODES, KINDS};
