@@ -5,8 +5,8 @@ cd "$(dirname "${BASH_SOURCE[0]}")/.."
 mkdir -p target-log
 trap 'rm -rf target-log' EXIT
 
-# rt waits for all of a batch before it starts the next: with four to a processor a long check does not leave one idle (each takes up to 1.4 GB).
-export RT_JOBS=${RT_JOBS:-$((4 * $(nproc)))}
+# rt waits for all of a batch before it starts the next: with two to a processor a long check does not leave one idle (each takes up to 1.4 GB).
+export RT_JOBS=${RT_JOBS:-$((2 * $(nproc)))}
 rt ci 2>&1 | tee target-log/ci
 status=${PIPESTATUS[0]}
 verdict=$(grep -E '^[0-9]+ passed, [0-9]+ failed' target-log/ci | tail -n 1)
