@@ -27,7 +27,7 @@ def rare(meaning, word):
     return word.endswith('ième') * 10000 + meaning
 
 
-# the tables: the key and the meaning at each place; and the list: what found its place taken
+# the entries that have a place in the table, by their places; and the others, which found it taken
 def entries_of(language):
     meanings = {}
     for line in open(os.path.join(HERE, 'meanings_%s.txt' % language), encoding='utf8'):
@@ -35,18 +35,15 @@ def entries_of(language):
         for word in words:
             known = meanings.setdefault(key(word), (int(meaning), word))
             assert known[0] == int(meaning), '%s and %s have one key' % (word, known[1])
-    keys, values, others = {}, {}, {}
+    placed, others = {}, []
     for k in sorted(meanings, key=lambda k: (rare(*meanings[k]), k)):
         meaning, word = meanings[k]
         if not meaning:
             continue
-        slot = k % SLOTS[language]
-        if slot in keys:
-            others[k] = (meaning, word)
-        else:
-            keys[slot] = (k, word)
-            values[slot] = (meaning, word)
-    return [sorted((k,) + v for k, v in table.items()) for table in (keys, values, others)]
+        entry = (k, meaning, word)
+        if placed.setdefault(k % SLOTS[language], entry) != entry:
+            others.append(entry)
+    return [placed[slot] for slot in sorted(placed)], sorted(others)
 
 
 # lines of one list, with no break inside a pair
@@ -60,7 +57,7 @@ class Crate:
         self.name = 'meanings_' + language
         self.root = os.path.join(HERE, '..', 'crates', self.name)
         self.slots = SLOTS[language]
-        self.tables = list(zip(('keys', 'values', 'others'), entries_of(language)))
+        self.placed, self.others = entries_of(language)
 
     def write(self, path, text):
         path = os.path.join(self.root, path)
@@ -68,55 +65,53 @@ class Crate:
         open(path, 'w', encoding='utf8').write(text)
 
     def specs(self):
-        said = {
-            'keys': 'the keys that have a place in the tables, by their remainder by %d' % self.slots,
-            'values': 'what they mean',
-            'others': 'what the others mean',
-        }
         lists = ''
-        for name, entries in self.tables:
-            row = ' ∷ '.join(['(%d, %d)' % (k, v) for k, v, w in reversed(entries)] + ['[]'])
-            lists += '-- %s\nunfoldable pub %s : Entries\n%s =\n%s\n\n' % (said[name], name, name, filled(row))
+        for name, said, entries in (
+            ('placed', 'the keys that have a place in the table, with what they mean', self.placed),
+            ('others', 'the keys that found their place taken', self.others),
+        ):
+            row = ' ∷ '.join(['(%d, %d)' % (k, m) for k, m, w in reversed(entries)] + ['[]'])
+            lists += '-- %s\nunfoldable pub %s : Entries\n%s =\n%s\n\n' % (said, name, name, filled(row))
         self.write('specs/Lib.antt', 'pub mod Meanings\n')
         self.write('specs/Meanings.antt', '''-- What the words of the %s numbers mean, by their keys: 1 to 999 a number,
 -- 1000 and more a scale word of that order%s, 2001 minus, 0 nothing.
 -- What a reader makes of these is held against the grammar's own words afterwards, so nothing here has to be believed.
 -- Assumes nothing.
 use Prim.Native.Nat.{ℕ}
-use mathlib.Core.List.{[], _∷_}
-use Rattle.meanings.specs.Lookup.{Entries, lookupIn}
+use mathlib.Core.List.{[], _∷_, _++_}
+use Rattle.meanings.specs.Lookup.{Entries, lookup}
 
 %s-- the meaning of the word with this key
 unfoldable pub meaningOf : ℕ → ℕ
-meaningOf key = lookupIn %d keys values others key
-''' % (LANGUAGES[self.language], ZEROS[self.language], lists, self.slots))
+meaningOf key = lookup key (placed ++ others)
+''' % (LANGUAGES[self.language], ZEROS[self.language], lists))
 
-    def source(self):
-        said = {
-            'keys': ('key_at(slot: u32) -> u32', 'slot', 'The key that has this place in the tables, or 0. So many places are taken that the compiler makes a load of the match.'),
-            'values': ('meaning_at(slot: u32) -> u16', 'slot', 'What the key at this place means.'),
-            'others': ('other(key: u32) -> u16', 'key', 'What a key means that found its place taken by another.'),
-        }
-        for name, entries in self.tables:
-            head, by, comment = said[name]
-            arms = ''.join('        %d => %d, // %s\n' % e for e in entries)
-            self.write('src/%s.rt' % name, '''// %s
+    # a match with an arm for each entry
+    def table(self, name, comment, uses, head, by, entries, said):
+        arms = ''.join('        %d => %s, // %s\n' % e for e in entries)
+        self.write('src/%s.rt' % name, '''// %s
 ghost use mathlib.Core.Path.{_≡_};
-ghost use Rattle.meanings.specs.Lookup.{lookup};
+ghost use Rattle.meanings.specs.Lookup.{%s};
 ghost use Rattle.%s.specs.Meanings.{%s as %sOf};
 
 pub fn %s
-    ensures { λ r. ⌜ r ≡ lookup %s %sOf ⌝ }
+    ensures { λ r. ⌜ r ≡ lookup %s ⌝ }
 {
     match %s {
 %s        _ => 0,
     }
 }
-''' % (comment, self.name, name, name, head, by, name, by, arms))
+''' % (comment, uses, self.name, name, name, head, said, by, arms))
+
+    def source(self):
+        comment = 'What stands at this place: 65536 times what its key means, and the key; or 0. So many places are taken that the compiler makes a load of the match.'
+        entries = [(k % self.slots, '0x%04x_%04x' % (m, k), '%s: %d' % (w, m)) for k, m, w in self.placed]
+        self.table('placed', comment, 'byPlace, lookup', 'entry_at(slot: u32) -> u32', 'slot', entries, 'slot (byPlace %d placedOf)' % self.slots)
+        comment = 'What a key means that found its place taken by another.'
+        self.table('others', comment, 'lookup', 'other(key: u32) -> u16', 'key', self.others, 'key othersOf')
         self.write('src/lib.rt', '''// What the words of the %s numbers mean, by their keys.
-mod keys;
 mod others;
-mod values;
+mod placed;
 
 ghost use mathlib.Core.Path.{_≡_};
 ghost use Rattle.%s.specs.Meanings.{meaningOf};
@@ -125,9 +120,9 @@ ghost use Rattle.%s.specs.Meanings.{meaningOf};
 pub fn meaning(key: u32) -> u16
     ensures { λ r. ⌜ r ≡ meaningOf key ⌝ }
 {
-    let slot = key %% %d;
-    if keys::key_at(slot) == key {
-        return values::meaning_at(slot);
+    let entry = placed::entry_at(key %% %d);
+    if entry %% 65536 == key {
+        return (entry / 65536) as u16;
     }
     others::other(key)
 }
@@ -143,31 +138,40 @@ use Rattle.%s.proofs.%s.Tie as tie
 pub %s-spec : {M : Type 1} → statement M
 %s''' % (self.name, path.replace('/', '::'), comment, uses, self.name, dotted, self.name, dotted, path.split('/')[-1].replace('_', '-'), body))
 
+    # one answer for each arm: the law of an arm, at the arm's key
+    def arms(self, path, name, unfolded, table, count):
+        function = path.split('/')[-1].replace('_', '-')
+        answers = ['(λ c. found %s (c .match .keys%d) refl)' % (table, q) for q in range(1, count + 1)]
+        answers.append('(λ c. missed _ %s (c .match .rest))' % table)
+        uses = '''use mathlib.Core.Path.{refl}
+use Rattle.meanings.specs.Lookup.{%s}
+use Rattle.meanings.proofs.Arms.{found, missed}
+use Rattle.%s.specs.Meanings.{%s}
+''' % (', '.join(unfolded), self.name, name)
+        body = 'unfolding %s %s\n%s-spec =\n    tie.close\n    (tie.spec\n    %s)\n' % (' '.join(unfolded), name, function, '\n    '.join(answers))
+        self.proof(path, uses, body, 'in the arm of a number stands its entry')
+
     def proofs(self):
         self.write('proofs/Lib.antt', '')
-        tables = 'use Rattle.%s.specs.Meanings.{%%s}\n' % self.name
-        for (name, entries), function in zip(self.tables, ('key_at', 'meaning_at', 'other')):
-            arms = ['(λ c. found %s (c .match .keys%d) refl)' % (name, q) for q in range(1, len(entries) + 1)]
-            arms.append('(λ c. missed _ %s (c .match .rest))' % name)
-            uses = '''use mathlib.Core.Path.{refl}
+        self.arms('placed/entry_at', 'placed', ('byPlace', 'lookup'), '(byPlace %d placed)' % self.slots, len(self.placed))
+        self.arms('others/other', 'others', ('lookup',), 'others', len(self.others))
+        uses = '''use mathlib.Core.Path.{refl}
+use borrow.Author.Needs.{needs}
 use Rattle.meanings.specs.Lookup.{lookup}
-use Rattle.meanings.proofs.Arms.{found, missed}
-''' + tables % name
-            self.proof(name + '/' + function, uses, 'unfolding lookup %s\n%s-spec =\n    tie.close\n    (tie.spec\n    %s)\n' % (name, function.replace('_', '-'), '\n    '.join(arms)), 'in the arm of a number stands its entry')
-        uses = '''use borrow.Author.Needs.{needs}
-use Rattle.meanings.proofs.Arms.{placed, elsewhere}
-''' + tables % 'keys, values, others, meaningOf'
-        body = '''unfolding meaningOf
+use Rattle.meanings.proofs.Places as places
+use Rattle.%s.specs.Meanings.{placed, others, meaningOf}
+''' % self.name
+        body = '''unfolding lookup placed others meaningOf
 meaning-spec =
     tie.close
     (tie.spec
     (λ c κs. search needs)
+    (λ c. search needs)
+    (λ c. places.placed %d _ others placed refl (c .before .entry-at .ensures) refl (c .if1 .taken))
     (λ c κs. search needs)
-    (λ c. placed %d keys values others _ _ _ (c %s .key-at .ensures) (c .before .if1 .taken) (c .meaning-at .ensures))
-    (λ c κs. search needs)
-    (λ c. elsewhere %d keys values others _ _ _ (c %s .key-at .ensures) (c .before .if1 .left) (c .other .ensures)))
-''' % (self.slots, '.before .before', self.slots, '.before .before')
-        self.proof('meaning', uses, body, 'a key is found at its place, or in the list')
+    (λ c. places.elsewhere %d _ others placed refl (c .before .before .entry-at .ensures) (c .before .if1 .left) (c .other .ensures)))
+''' % (self.slots, self.slots)
+        self.proof('meaning', uses, body, 'a key is found at its place, or among the others')
 
     def generate(self):
         for folder in ('proofs', 'src'):

@@ -9,6 +9,7 @@ use borrow.Author.Tests.{lt-ltb, le-ltb}
 use lib.Dec.{ltb, eqb}
 use Rattle.base.specs.Answer.{refused, fitted, replied, Answers, Reads, ReadsUnless}
 use Rattle.base.specs.declared.Answer.{Answer}
+use Rattle.base.proofs.Replies.{refusal, refusal-some}
 use Rattle.figures.specs.Text.{value, negative, unsigned, signedText}
 use Rattle.figures.specs.Groups.{groupsOf, total}
 use Rattle.figures.proofs.Laws.Groups.{groups-length, groups-below, total-groups}
@@ -18,9 +19,8 @@ use Rattle.fr.specs.Cardinal.{cardinalPhrase}
 use Rattle.fr.specs.Ordinal.{ordinalPhrase}
 use Rattle.fr.specs.declared.French.{French}
 use Rattle.spell_fr.specs.Top.{Groups34}
-use Rattle.read_fr.specs.Promise.{numberOf, seenAs, ReadOf, ReadNth}
-use Rattle.read_fr.specs.declared.Seen.the-variants.{Refused}
-use Rattle.calls_fr.specs.Calls.{inRange, firstRefusal, settingsRefusal, cardinalOf, ordinalOf, CardinalMeans, OrdinalMeans}
+use Rattle.read_fr.specs.Promise.{ReadNth}
+use Rattle.calls_fr.specs.Calls.{inRange, firstRefusal, settingsRefusal, cardinalOf, ordinalOf, OrdinalMeans}
 
 clash : {A : Type 0} → false ≡ true → A
 clash e = let z : _≡_ {A = ℕ} 0 1 = cc in absurd (omega arith)
@@ -36,28 +36,17 @@ module _ (F : French) where
   pub feminine-out : 2 ≤ F .feminine → false ≡ inRange F
   feminine-out a = rw (le-ltb (F .feminine) 2 a) refl
 
--- a refusal
-pub refuses : (xs : List ℕ) (n : ℕ) → Answers (record { number = n; length = 0 }) xs xs (refused n 0)
-refuses xs n = record { number = refl; length = refl; buffer = refl }
-
-some : (xs b : List ℕ) (n m : ℕ) → n ≡ m → (n ≡ 0 → ⊥) → Answers (record { number = n; length = 0 }) xs xs (replied m b xs)
-some xs b n zero e z = absurd (z e)
-some xs b n (suc m) e z = record { number = e; length = refl; buffer = refl }
-
+-- refusals
 pub refuses-text : (F : French) (xs b : List ℕ) (n m : ℕ) → inRange F ≡ true → n ≡ m → (n ≡ 0 → ⊥)
     → Answers (record { number = n; length = 0 }) xs xs (replied (firstRefusal F m) b xs)
-refuses-text F xs b n m t e z = rw t (some xs b n m e z)
+refuses-text F xs b n m t e z = rw t (refusal-some xs b n m e z)
 
 pub refuses-settings : (F : French) (xs b : List ℕ) (m : ℕ) → inRange F ≡ false → Answers (record { number = 1; length = 0 }) xs xs (replied (firstRefusal F m) b xs)
-refuses-settings F xs b m t = rw t (refuses xs 1)
+refuses-settings F xs b m t = rw t (refusal xs 1)
 
 pub answers-text : (F : French) (r : Answer) (xs ys b : List ℕ) (m : ℕ) → inRange F ≡ true → m ≡ 0 → Answers r xs ys (fitted xs b)
     → Answers r xs ys (replied (firstRefusal F m) b xs)
 answers-text F r xs ys b m t e a = rw (t, e) a
-
--- the same bytes
-pub said-as : {r : Answer} {xs ys b c : List ℕ} → Answers r xs ys (fitted xs b) → b ≡ c → Answers r xs ys (fitted xs c)
-said-as {r} {xs} {ys} a e = subst (λ (l : List ℕ). Answers r xs ys (fitted xs l)) e a
 
 -- the plan says the text's phrase
 pub planned-cardinal : (F : French) (xs us plan gs : List ℕ) (z m : Bool) (n : ℕ) → z ≡ eqb (value (unsigned xs)) 0 → m ≡ negative xs → us ≡ unsigned xs
@@ -73,31 +62,8 @@ planned-ordinal F xs us plan gs n h eu eg e = e ∙ rw (eg, eu, total-groups 34 
 pub text-groups : (gs : List ℕ) (x : ℕ) → gs ≡ groupsOf 34 x → Groups34 gs
 text-groups gs x e = rw e (groups-length 34 x, groups-below 34 x)
 
--- the readers' promises, for the answer of each case
-seen-not : {A : Type 0} (m : Bool) → Refused ≡ seenAs m → A
-seen-not true e = let z : _≡_ {A = ℕ} 0 1 = cc in absurd (omega arith)
-seen-not false e = let z : _≡_ {A = ℕ} 0 1 = cc in absurd (omega arith)
-
-seen-done : {A : Type 0} (m : Bool) → numberOf (seenAs m) ≡ 6 → A
-seen-done true e = absurd (omega arith)
-seen-done false e = absurd (omega arith)
-
-seen-sign : (m k : Bool) → seenAs m ≡ seenAs k → m ≡ k
-seen-sign true true e = refl
-seen-sign true false e = let z : _≡_ {A = ℕ} 0 1 = cc in absurd (omega arith)
-seen-sign false true e = let z : _≡_ {A = ℕ} 0 1 = cc in absurd (omega arith)
-seen-sign false false e = refl
-
+-- the promise of the reader of ordinals, for each of its answers
 module _ (F : French) (s gs xs ys : List ℕ) (r : Answer) where
-  pub cardinal-none : ReadOf F s Refused gs → Answers r xs ys (refused 6 0) → Reads (CardinalMeans F) s r xs ys
-  cardinal-none p a = record { sentence = λ t m. seen-not (m .minus) (p .reads (m .minus) (m .magnitude) (m .says) .0); none = λ f. a }
-
-  pub cardinal-some : (m : Bool) → ReadOf F s (seenAs m) gs → Answers r xs ys (fitted xs (signedText m (total gs))) → Reads (CardinalMeans F) s r xs ys
-  cardinal-some m p a = record {
-    sentence = λ t x. let e = p .reads (x .minus) (x .magnitude) (x .says) in rw (x .text, ← e .1, ← seen-sign m (x .minus) (e .0)) a;
-    none = λ f. seen-done m (p .refuses (λ k n q. f (signedText k n) (record { minus = k; magnitude = n; says = q; text = refl })));
-  }
-
   pub ordinal-none : (b : Bool) → ReadNth F s b gs → b ≡ false → Answers r xs ys (refused 6 0) → Reads (OrdinalMeans F) s r xs ys
   ordinal-none b p e a = record { sentence = λ t m. clash (sym e ∙ p .reads (m .magnitude) (m .says) .0); none = λ f. a }
 

@@ -6,6 +6,7 @@ use mathlib.Core.Bool.{Bool, true, false, cond, _&&_}
 use mathlib.Core.List.{List}
 use lib.Dec.{eqb, ltb}
 use Rattle.figures.specs.Text.{value, negative, unsigned, signedText}
+use Rattle.figures.specs.Seen.{TextOf}
 use Rattle.figures.specs.Groups.{groupsOf}
 use Rattle.figures.specs.Refusals.{judgeDigits, refusalOf}
 use Rattle.fr.specs.Cardinal.{cardinalPhrase}
@@ -54,11 +55,8 @@ unfoldable pub ordinalOf : French → List ℕ → List ℕ
 ordinalOf F xs = ordinalPhrase F (eqb (value (unsigned xs)) 0) (eqb (value (unsigned xs)) 1) (groupsOf 34 (value (unsigned xs)))
 
 -- the phrase s is a sentence whose value is the number text xs (01, "Phrase grammar and reader")
-pub record CardinalMeans (F : French) (s xs : List ℕ) : Type 0 where
-  pub minus : Bool
-  pub magnitude : ℕ
-  pub says : Says F s minus magnitude
-  pub text : xs ≡ signedText minus magnitude
+abbrev pub CardinalMeans : French → List ℕ → List ℕ → Type 0
+CardinalMeans F s xs = TextOf (Says F s) xs
 
 -- the phrase s is an ordinal whose value is the number text xs
 pub record OrdinalMeans (F : French) (s xs : List ℕ) : Type 0 where

@@ -1,7 +1,6 @@
 // French cardinals and ordinals from bytes to bytes, both ways.
 use base::Answer;
 use fr::French;
-use read_fr::Seen;
 ghost use mathlib.Core.Path.{_≡_};
 ghost use mathlib.Core.Bool.{true};
 ghost use Prim.Native.Nat.{_≤_};
@@ -55,14 +54,7 @@ fn read_cardinal(f: French, said: &[u8], out: &mut [u8]) -> Answer
 {
     let mut gs = [0u16; 34];
     let seen = read_fr::read_cardinal(f, said, &mut gs);
-    match seen {
-        Seen::Refused => Answer {
-            number: 6,
-            length: 0,
-        },
-        Seen::Plain => numerals::put_number(false, &gs, out),
-        Seen::Negative => numerals::put_number(true, &gs, out),
-    }
+    numerals::put_seen(seen, &gs, out)
 }
 
 // Any bytes, read as an ordinal.

@@ -25,14 +25,6 @@ use Rattle.read_money.specs.declared.Seen.{Seen}
 use Rattle.read_money.specs.declared.Seen.the-variants.{Refused, Amount}
 use Rattle.calls_money.specs.MoneyCalls.{refusedText, refusedCode, refusedAmount, moneyPhrase, Means}
 
--- a refusal that is not 0
-pub refusal-some : (xs b : List ℕ) (n m : ℕ) → n ≡ m → (n ≡ 0 → ⊥) → Answers (record { number = n; length = 0 }) xs xs (replied m b xs)
-refusal-some xs b n zero e z = absurd (z e)
-refusal-some xs b n (suc m) e z = record { number = e; length = refl; buffer = refl }
-
-pub refusal : (xs : List ℕ) (n : ℕ) → Answers (record { number = n; length = 0 }) xs xs (refused n 0)
-refusal xs n = record { number = refl; length = refl; buffer = refl }
-
 -- what is said of the text's parts is said of the text
 pub planned : (c : Currency) (case : ℕ) (t w us ht gs : List ℕ) (z : Bool) (h : ℕ) → w ≡ wholeText t → z ≡ eqb (value (unsigned w)) 0 → us ≡ unsigned w → gs ≡ groupsOf 22 (value us)
     → ht ≡ hundredthsText t → h ≡ value ht → joined (moneyWords c case z gs h) ≡ moneyPhrase c case t

@@ -1,4 +1,3 @@
-pub mod Replies
 pub mod Admitted
 pub mod Softness
 pub mod Hyphened

@@ -3,12 +3,13 @@
 -- Assumes nothing.
 use Prim.Native.Nat.{ℕ}
 use mathlib.Core.Path.{_≡_}
-use mathlib.Core.Bool.{Bool, true}
+use mathlib.Core.Bool.{true}
 use mathlib.Core.List.{List}
 use lib.Dec.{eqb}
 use Rattle.base.specs.Join.{joined}
-use Rattle.figures.specs.Text.{value, negative, unsigned, signedText}
+use Rattle.figures.specs.Text.{value, negative, unsigned}
 use Rattle.figures.specs.Groups.{groupsOf}
+use Rattle.figures.specs.Seen.{TextOf}
 use Rattle.figures.specs.Refusals.{refusalOf, judgeDigits}
 use Rattle.uk.specs.Settings.{unlessSettings}
 use Rattle.uk.specs.Ukrainian.{ukrainian}
@@ -37,8 +38,5 @@ cardinal gender case t =
     joined (cardinalWords (ukrainian gender case) (eqb (value (unsigned t)) 0) (negative t) (groupsOf 22 (value (unsigned t))))
 
 -- the phrase s is a sentence whose value is the number text t
-pub record Means (gender case : ℕ) (s t : List ℕ) : Type 0 where
-  pub minus : Bool
-  pub magnitude : ℕ
-  pub says : Says (ukrainian gender case) s minus magnitude
-  pub text : t ≡ signedText minus magnitude
+abbrev pub Means : ℕ → ℕ → List ℕ → List ℕ → Type 0
+Means gender case s t = TextOf (Says (ukrainian gender case) s) t

@@ -1,6 +1,5 @@
 // Ukrainian cardinals from bytes to bytes, both ways. No phrase has more than 12,320 bytes: the program keeps that much room for an answer.
 use base::Answer;
-use read_uk::Seen;
 use uk::Settings;
 ghost use mathlib.Core.Path.{_≡_};
 ghost use mathlib.Core.Bool.{true};
@@ -42,14 +41,7 @@ fn read(settings: Settings, said: &[u8], out: &mut [u8]) -> Answer
 {
     let mut gs = [0u16; 22];
     let seen = read_uk::read_cardinal(settings, said, &mut gs);
-    match seen {
-        Seen::Refused => Answer {
-            number: 6,
-            length: 0,
-        },
-        Seen::Plain => numerals::put_number(false, &gs, out),
-        Seen::Negative => numerals::put_number(true, &gs, out),
-    }
+    numerals::put_seen(seen, &gs, out)
 }
 
 // The cardinal of a number text.

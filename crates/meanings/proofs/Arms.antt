@@ -1,10 +1,10 @@
 -- A match over keys: what an arm gives, and what is left past the last.
 -- Assumes nothing.
-use Prim.Native.Nat.{ℕ, _%_}
-use mathlib.Core.Path.{_≡_, refl, sym, _∙_}
+use Prim.Native.Nat.{ℕ}
+use mathlib.Core.Path.{_≡_, refl}
 use mathlib.Core.List.{[], _∷_}
-use borrow.Author.Tests.{eq-eqb, ne-eqb}
-use Rattle.meanings.specs.Lookup.{Entries, lookup, lookupIn}
+use borrow.Author.Tests.{ne-eqb}
+use Rattle.meanings.specs.Lookup.{Entries, lookup}
 
 -- the key is none of the entries', which stand in the reverse order of the arms
 abbrev pub Missed : ℕ → Entries → Type 0
@@ -19,13 +19,3 @@ missed key (e ∷ es) h = rw (ne-eqb key (e .0) (h .1)) (missed key es (h .0))
 -- an arm's number is what stands at its key
 pub found : {key k v : ℕ} (es : Entries) → key ≡ k → v ≡ lookup k es → v ≡ lookup key es
 found es e g = rw e g
-
--- a key at its place, and one that is not there
-module _ (slots : ℕ) (keys values others : Entries) (key k r : ℕ) (e : k ≡ lookup (key % slots) keys) where
-  pub placed : k ≡ key → r ≡ lookup (key % slots) values → r ≡ lookupIn slots keys values others key
-  unfolding lookupIn
-  placed f g = g ∙ rw (eq-eqb (lookup (key % slots) keys) key (sym e ∙ f)) refl
-
-  pub elsewhere : (k ≡ key → ⊥) → r ≡ lookup key others → r ≡ lookupIn slots keys values others key
-  unfolding lookupIn
-  elsewhere f g = g ∙ rw (ne-eqb (lookup (key % slots) keys) key (λ z. f (e ∙ z))) refl

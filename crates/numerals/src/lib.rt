@@ -2,6 +2,7 @@
 pub mod money; // money.rt: the money text of groups and hundredths
 
 use base::Answer;
+use figures::Seen;
 ghost use mathlib.Core.Path.{_≡_};
 ghost use Prim.Native.Nat.{_-_, _*_, _^_, _≤_, _<_};
 ghost use lib.ListN.{length};
@@ -9,6 +10,7 @@ ghost use Rattle.base.specs.Buffer.{over};
 ghost use Rattle.base.specs.Answer.{fitted, Answers};
 ghost use Rattle.figures.specs.Text.{fixed, text, signedText};
 ghost use Rattle.figures.specs.Groups.{total, Groups};
+ghost use Rattle.numerals.specs.Reading.{answered};
 
 // How many groups there are up to the highest that is not 0, at least one.
 fn height(g: &[u16]) -> usize
@@ -145,5 +147,21 @@ pub fn put_number(minus: bool, g: &[u16], out: &mut [u8]) -> Answer
     Answer {
         number: 0,
         length: w,
+    }
+}
+
+// The answer to what was read: that text with its sign, or 6.
+pub fn put_seen(seen: Seen, g: &[u16], out: &mut [u8]) -> Answer
+    requires { ⌜ Groups (now g) ⌝ }
+    requires { ⌜ (0 < length (now g)) × (length (now g) ≤ 34) ⌝ }
+    ensures { λ r. ⌜ Answers r (now (out .entry)) (now (out .exit)) (answered seen (total (now (g .entry))) (now (out .entry))) ⌝ }
+{
+    match seen {
+        Seen::Refused => Answer {
+            number: 6,
+            length: 0,
+        },
+        Seen::Plain => put_number(false, g, out),
+        Seen::Negative => put_number(true, g, out),
     }
 }

@@ -8,6 +8,7 @@ use lib.Dec.{eqb}
 use lib.ListN.{drop}
 use Rattle.base.specs.Decides.{Decides}
 use Rattle.figures.specs.Groups.{total}
+use Rattle.figures.specs.Seen.{seenAs, seenOf, ReadOf}
 use Rattle.phrase.proofs.Laws.{from, from-is}
 use Rattle.fr.specs.Rules.{InRange}
 use Rattle.fr.specs.Cardinal.{cardinalPhrase}
@@ -16,9 +17,7 @@ use Rattle.fr.specs.Grammar.{Says, SaysNth}
 use Rattle.fr.specs.declared.French.{French}
 use Rattle.spell_fr.specs.Top.{Groups34}
 use Rattle.read_fr.specs.Reading.{meanings, isMinus, unsigned, guessed}
-use Rattle.read_fr.specs.Promise.{seenAs, ReadOf, ReadNth}
-use Rattle.read_fr.specs.declared.Seen.{Seen}
-use Rattle.read_fr.specs.declared.Seen.the-variants.{Refused}
+use Rattle.read_fr.specs.Promise.{ReadNth}
 use Rattle.read_fr.proofs.Groups.{guessed-groups}
 use Rattle.read_fr.proofs.Decided.{says-once, stands-says, fails-says, nth-once, stands-nth, fails-nth}
 
@@ -35,14 +34,15 @@ module _ (F : French) (v : InRange F) (s gs : List ℕ) (e : gs ≡ guessed (uns
   same-phrase : cardinalPhrase F (eqb (total (guessed (unsigned (meanings s)))) 0) (isMinus (meanings s)) (guessed (unsigned (meanings s))) ≡ cardinalPhrase F z m gs
   same-phrase = rw (p, q, e) refl
 
-  pub read-yes : b ≡ true → (r : Seen) → r ≡ seenAs (cond z false m) → ReadOf F s r gs × Groups34 gs
-  read-yes t r o =
-      let w : Says F s (cond (eqb (total (guessed (unsigned (meanings s)))) 0) false (isMinus (meanings s))) (total (guessed (unsigned (meanings s)))) = stands-says F v s (same-phrase ∙ d .holds t) in
-      let x : Says F s (cond z false m) (total gs) = rw (p, q, e) w in
-      (record { reads = λ m′ n y. let u = says-once F v s x y in (o ∙ ap seenAs (u .0), u .1); refuses = λ f. absurd (f (cond z false m) (total gs) x) }, are-groups gs _ e)
-
-  pub read-no : b ≡ false → ReadOf F s Refused gs × Groups34 gs
-  read-no t = (record { reads = λ m′ n y. absurd (fails-says F v s (λ g. d .fails t (sym same-phrase ∙ g)) y); refuses = λ f. refl }, are-groups gs _ e)
+  pub read : ReadOf (Says F s) (seenOf b z m) gs × Groups34 gs
+  read = (go b refl, are-groups gs _ e)
+    where
+      go : (t : Bool) → b ≡ t → ReadOf (Says F s) (seenOf t z m) gs
+      go true t =
+          let w : Says F s (cond (eqb (total (guessed (unsigned (meanings s)))) 0) false (isMinus (meanings s))) (total (guessed (unsigned (meanings s)))) = stands-says F v s (same-phrase ∙ d .holds t) in
+          let x : Says F s (cond z false m) (total gs) = rw (p, q, e) w in
+          record { reads = λ m′ n y. let u = says-once F v s x y in (ap seenAs (u .0), u .1); refuses = λ f. absurd (f (cond z false m) (total gs) x) }
+      go false t = record { reads = λ m′ n y. absurd (fails-says F v s (λ g. d .fails t (sym same-phrase ∙ g)) y); refuses = λ f. refl }
 
 module _ (F : French) (v : InRange F) (s gs : List ℕ) (e : gs ≡ guessed (meanings s)) (b : Bool)
     (d : Decides b (ordinalPhrase F (eqb (total gs) 0) (eqb (total gs) 1) gs ≡ s)) where

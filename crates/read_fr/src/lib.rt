@@ -1,5 +1,6 @@
 // Readers of French phrases. The meanings of the words are added up, leniently, to a number; then the number's own phrase, by the speller's
 // plan, is held against the bytes. So everything that depends on a setting stands in the planner alone.
+use figures::Seen;
 use fr::French;
 ghost use mathlib.Core.Path.{_≡_};
 ghost use mathlib.Core.List.{List, _∷_, _++_};
@@ -8,19 +9,14 @@ ghost use lib.Dec.{eqb, ltb};
 ghost use lib.ListN.{length, drop};
 ghost use Rattle.base.specs.Decides.{Decides};
 ghost use Rattle.figures.specs.Groups.{total};
+ghost use Rattle.figures.specs.Seen.{ReadOf};
 ghost use Rattle.fr.specs.Rules.{InRange};
 ghost use Rattle.fr.specs.Cardinal.{cardinalPhrase};
 ghost use Rattle.fr.specs.Ordinal.{ordinalPhrase};
+ghost use Rattle.fr.specs.Grammar.{Says};
 ghost use Rattle.spell_fr.specs.Top.{Groups34};
 ghost use Rattle.read_fr.specs.Reading.{meanings, grow as growOf, times as timesOf, one as oneOf, guess as guessOf, seems, reads, isMinus, unsigned, guessed};
-ghost use Rattle.read_fr.specs.Promise.{ReadOf, ReadNth};
-
-// What bytes are: no sentence, or one without the minus word, or one with it.
-pub enum Seen {
-    Refused,
-    Plain,
-    Negative,
-}
+ghost use Rattle.read_fr.specs.Promise.{ReadNth};
 
 // A number below a thousand in the making: its hundreds, and what is below them.
 pub struct Count {
@@ -204,21 +200,13 @@ fn is_ordinal(f: French, gs: &[u16; 34], s: &[u8]) -> bool
 // Any bytes as a cardinal under these settings: what they are by the grammar, with the groups in out.
 pub fn read_cardinal(f: French, s: &[u8], out: &mut [u16; 34]) -> Seen
     requires { ⌜ InRange f × (length (now out) ≡ 34) ⌝ }
-    ensures { λ r. ⌜ ReadOf f (now (s .entry)) r (now (out .exit)) × Groups34 (now (out .exit)) ⌝ }
+    ensures { λ r. ⌜ ReadOf (Says f (now (s .entry))) r (now (out .exit)) × Groups34 (now (out .exit)) ⌝ }
 {
     let k = sign(s);
     guess(&s[k..], out);
     let zero = spell_fr::is(out, 0);
-    if is_cardinal(f, zero, 0 < k, out, s) {
-        if zero {
-            return Seen::Plain;
-        }
-        if 0 < k {
-            return Seen::Negative;
-        }
-        return Seen::Plain;
-    }
-    Seen::Refused
+    let stands = is_cardinal(f, zero, 0 < k, out, s);
+    figures::seen_of(stands, zero, 0 < k)
 }
 
 // Any bytes as an ordinal under these settings: whether they are one by the grammar, with the groups in out.

@@ -12,8 +12,8 @@ use Rattle.base.specs.Utf8.{form2}
 use Rattle.tables.proofs.Tests.{and-left, and-right, all, all-at, clash}
 use Rattle.tokens.specs.Tokens.{keyFrom}
 use Rattle.tokens.proofs.Words.{isWord, Separable}
-use Rattle.meanings.specs.Lookup.{lookup, lookupIn}
-use Rattle.meanings_uk.specs.Meanings.{keys, values, others, meaningOf}
+use Rattle.meanings.specs.Lookup.{lookup}
+use Rattle.meanings_uk.specs.Meanings.{placed, others, meaningOf}
 use Rattle.read_uk.specs.Reading.{mean}
 use Rattle.read_uk.proofs.Taking.{Stops}
 use Rattle.money.specs.NounTables.{noun2stGroupHardDeclensions, noun2stGroupSoftDeclensions, noun1stGroupSoftDeclensionsVowel, noun1stGroupHardDeclensions, adjectiveHardMasculine, hryvnias, kopiykas}
@@ -38,7 +38,7 @@ pub record Named (ws : List Word) : Type 0 where
   pub separable : Separable ws
 
 quiet? : List Word → Bool
-unfolding meaningOf keys values others lookup lookupIn keyFrom
+unfolding meaningOf placed others lookup keyFrom
 quiet? [] = true
 quiet? (w ∷ ws) = (eqb (mean w) 0 && isWord w) && quiet? ws
 

@@ -23,9 +23,8 @@ use Rattle.uk.specs.Rules.{Words}
 use Rattle.uk.specs.Cardinal.{cardinalWords}
 use Rattle.uk.specs.Grammar.{Sentence, Says}
 use Rattle.read_uk.specs.Reading.{sums, signed, unsigned}
-use Rattle.read_uk.specs.Promise.{seenAs, ReadOf}
-use Rattle.read_uk.specs.declared.Seen.{Seen}
-use Rattle.read_uk.specs.declared.Seen.the-variants.{Refused, Plain, Negative}
+use Rattle.figures.specs.Seen.{seenAs, seenOf, ReadOf}
+use Rattle.figures.specs.declared.Seen.the-variants.{Refused, Plain}
 use Rattle.read_uk.proofs.Known.{Lawful}
 use Rattle.read_uk.proofs.Numbers.{sentence, spelled}
 use Rattle.read_uk.proofs.Sentences.{separable, reads}
@@ -66,7 +65,7 @@ module _ (W : Words) (L : Lawful W) (s : List ℕ) where
       bytes = sym e;
     }
 
-    pub read-zero : eqb (total gs) 0 ≡ true → joined (cardinalWords W (eqb (total gs) 0) m gs) ≡ s → ReadOf W s Plain gs
+    read-zero : eqb (total gs) 0 ≡ true → joined (cardinalWords W (eqb (total gs) 0) m gs) ≡ s → ReadOf (Says W s) Plain gs
     unfolding cardinalWords
     read-zero h e =
         let n = eqb-true (total gs) 0 h in
@@ -80,14 +79,19 @@ module _ (W : Words) (L : Lawful W) (s : List ℕ) where
         plain-of true h = absurd (h refl)
         plain-of false h = refl
 
-    pub read-signed : (b : Bool) → m ≡ b → eqb (total gs) 0 ≡ false → joined (cardinalWords W (eqb (total gs) 0) m gs) ≡ s → ReadOf W s (seenAs b) gs
-    read-signed b eb h e = record {
-      reads = λ minus k p. let c = complete minus k p in (ap seenAs (sym eb ∙ c .0), c .1);
+    read-signed : eqb (total gs) 0 ≡ false → joined (cardinalWords W (eqb (total gs) 0) m gs) ≡ s → ReadOf (Says W s) (seenAs m) gs
+    read-signed h e = record {
+      reads = λ minus k p. let c = complete minus k p in (ap seenAs (c .0), c .1);
       refuses = λ no. absurd (no m (total gs) (found m (λ n. absurd (eqb-false (total gs) 0 h n)) e));
     }
 
-    pub read-none : (joined (cardinalWords W (eqb (total gs) 0) m gs) ≡ s → ⊥) → ReadOf W s Refused gs
+    read-none : (joined (cardinalWords W (eqb (total gs) 0) m gs) ≡ s → ⊥) → ReadOf (Says W s) Refused gs
     read-none h = record { reads = λ minus k p. absurd (h (complete minus k p .2)); refuses = λ no. refl }
+
+    pub read : (b z : Bool) → z ≡ eqb (total gs) 0 → Decides b (joined (cardinalWords W (eqb (total gs) 0) m gs) ≡ s) → ReadOf (Says W s) (seenOf b z m) gs
+    read true true e d = read-zero (sym e) (d .holds refl)
+    read true false e d = read-signed (sym e) (d .holds refl)
+    read false z e d = read-none (d .fails refl)
 
 -- a test of the sign's bytes is the sign
 pub sign-is : (b : Bool) (r : ℕ) → eqb r 0 ≡ not b → ltb 0 r ≡ b

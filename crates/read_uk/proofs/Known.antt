@@ -12,8 +12,8 @@ use Rattle.base.specs.Utf8.{utf8, form1, form2, form3}
 use Rattle.tables.proofs.Tests.{and-left, and-right, all, all-at}
 use Rattle.tokens.specs.Tokens.{keyFrom, key}
 use Rattle.tokens.proofs.Words.{isWord}
-use Rattle.meanings.specs.Lookup.{lookup, lookupIn}
-use Rattle.meanings_uk.specs.Meanings.{keys, values, others, meaningOf}
+use Rattle.meanings.specs.Lookup.{lookup}
+use Rattle.meanings_uk.specs.Meanings.{placed, others, meaningOf}
 use Rattle.uk.specs.UkTables.{zeros, gendered, units, teensBases, teensFlexions, tens, hundreds, thousandFlexions, megaBases, megaFlexions}
 use Rattle.uk.specs.Rules.{Words}
 use Rattle.uk.specs.Ukrainian.{genderAt, unitForm, teenForm, many, agreedNumber, agreedCase, scaleEnding, nounForm, ukrainian}
@@ -25,7 +25,7 @@ pub record Known (w : Word) (v : ℕ) : Type 0 where
   pub sound : isWord w ≡ true
 
 known? : Word → ℕ → Bool
-unfolding meaningOf keys values others lookup lookupIn keyFrom
+unfolding meaningOf placed others lookup keyFrom
 known? w v = eqb (mean w) v && isWord w
 
 knows : (w : Word) (v : ℕ) → known? w v ≡ true → Known w v

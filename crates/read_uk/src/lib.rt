@@ -1,5 +1,6 @@
 // The reader of Ukrainian cardinals. It takes any bytes word by word, makes a sign and groups of them, and compares the words that these have
 // under the settings, planned as the speller plans them, with the bytes.
+use figures::Seen;
 use uk::Settings;
 ghost use mathlib.Core.Path.{_≡_};
 ghost use mathlib.Core.Bool.{not};
@@ -8,23 +9,17 @@ ghost use Prim.Native.Nat.{_+_, _≤_, _<_};
 ghost use lib.Dec.{eqb};
 ghost use lib.ListN.{length, take, drop, replicate};
 ghost use Rattle.figures.specs.Groups.{total, Groups};
+ghost use Rattle.figures.specs.Seen.{ReadOf};
 ghost use Rattle.tokens.specs.Tokens.{split};
 ghost use Rattle.uk.specs.Ukrainian.{ukrainian};
+ghost use Rattle.uk.specs.Grammar.{Says};
 ghost use Rattle.read_uk.specs.Reading.{taken, sums, left, signed, unsigned};
-ghost use Rattle.read_uk.specs.Promise.{ReadOf};
 
 // A group's value and order, and how many bytes it has.
 pub struct Group {
     pub value: u16,
     pub order: usize,
     pub at: usize,
-}
-
-// What a phrase is: no sentence, or one whose groups were read, with its sign.
-pub enum Seen {
-    Refused,
-    Plain,
-    Negative,
 }
 
 // The group at the front of a text: number words up to a scale noun, or up to a word that is none, or the end.
@@ -112,21 +107,13 @@ fn is_zero(gs: &[u16]) -> bool
 // Any bytes, under these settings: what they are by the grammar, with the groups in out.
 pub fn read_cardinal(settings: Settings, s: &[u8], out: &mut [u16; 22]) -> Seen
     requires { ⌜ (settings .gender < 3) × (settings .case < 6) × (now out ≡ replicate 22 0) ⌝ }
-    ensures { λ r. ⌜ ReadOf (ukrainian (settings .gender) (settings .case)) (now (s .entry)) r (now (out .exit)) × Groups (now (out .exit)) × (length (now (out .exit)) ≡ 22) ⌝ }
+    ensures { λ r. ⌜ ReadOf (Says (ukrainian (settings .gender) (settings .case)) (now (s .entry))) r (now (out .exit)) × Groups (now (out .exit)) × (length (now (out .exit)) ≡ 22) ⌝ }
 {
     let m = minus(s);
     groups(22, &s[m..], out);
     let zero = is_zero(out);
     let mut plan = [0u32; 112];
     let n = spell_uk::plan_cardinal(settings, zero, 0 < m, out, &mut plan);
-    if phrase::stands(&plan[..n], s) {
-        if zero {
-            return Seen::Plain;
-        }
-        if 0 < m {
-            return Seen::Negative;
-        }
-        return Seen::Plain;
-    }
-    Seen::Refused
+    let stands = phrase::stands(&plan[..n], s);
+    figures::seen_of(stands, zero, 0 < m)
 }

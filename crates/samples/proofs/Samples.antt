@@ -12,8 +12,8 @@ use Rattle.base.specs.Join.{joined}
 use Rattle.base.specs.Same.{sameText}
 use Rattle.base.proofs.Same.{same-not}
 use Rattle.tokens.specs.Tokens.{firstWord, afterWord, split, keyFrom}
-use Rattle.meanings.specs.Lookup.{lookup, lookupIn}
-use Rattle.meanings_uk.specs.Meanings.{keys, values, others, meaningOf}
+use Rattle.meanings.specs.Lookup.{lookup}
+use Rattle.meanings_uk.specs.Meanings.{placed, others, meaningOf}
 use Rattle.figures.specs.Groups.{groupsOf, total}
 use Rattle.uk.specs.UkTables.{zeros, gendered, units, teensBases, teensFlexions, tens, hundreds, thousandFlexions, megaBases, megaFlexions}
 use Rattle.uk.specs.Ukrainian.{unitForm, teenForm, scaleEnding, nounForm, ukrainian}
@@ -54,15 +54,15 @@ abbrev twoThousand : List ℕ
 twoThousand = utf8 "два тисячі"
 
 unsigned-two : signed (split twoThousand) ≡ false
-unfolding firstWord afterWord split keyFrom lookup lookupIn keys values others meaningOf taken sums
+unfolding firstWord afterWord split keyFrom lookup placed others meaningOf taken sums
 unsigned-two = refl
 
 unsigned-words : unsigned (split twoThousand) ≡ split twoThousand
-unfolding firstWord afterWord split keyFrom lookup lookupIn keys values others meaningOf
+unfolding firstWord afterWord split keyFrom lookup placed others meaningOf
 unsigned-words = refl
 
 taken-two : taken 0 (split twoThousand) ≡ closed 2 1 []
-unfolding firstWord afterWord split keyFrom lookup lookupIn keys values others meaningOf taken
+unfolding firstWord afterWord split keyFrom lookup placed others meaningOf taken
 taken-two = refl
 
 -- no group above order 1

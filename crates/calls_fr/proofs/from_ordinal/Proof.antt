@@ -4,7 +4,8 @@ use borrow.Author.Needs.{needs}
 use mathlib.Core.Path.{sym, _∙_}
 use Rattle.calls_fr.specs.Calls.{french, OrdinalMeans}
 use Rattle.calls_fr.proofs.Theorems.{ranges}
-use Rattle.calls_fr.proofs.Answers.{refuses, reads-settled, reads-unsettled}
+use Rattle.base.proofs.Replies.{refusal}
+use Rattle.calls_fr.proofs.Answers.{reads-settled, reads-unsettled}
 use Rattle.calls_fr.proofs.from_ordinal.Statement.{statement}
 use Rattle.calls_fr.proofs.from_ordinal.Tie as tie
 
@@ -18,4 +19,4 @@ from-ordinal-spec =
     (λ c. let a = c .before .before .before .before .before .before .before .before .args in let F = french (a .feminine) (a .reformed) (a .region) in
     reads-settled F (a .said .now) (a .said .now) (a .out .now) _ _ (OrdinalMeans F) (sym (c .before .before .before .before .before .in-range .ensures) ∙ c .before .before .before .before .if1 .taken) (c .before .before .read-ordinal .ensures))
     (λ c. let a = c .before .before .before .before .args in let F = french (a .feminine) (a .reformed) (a .region) in
-    reads-unsettled F (a .said .now) (a .said .now) (a .out .now) _ _ (OrdinalMeans F) (sym (c .before .in-range .ensures) ∙ c .if1 .left) (refuses (a .out .now) 1)))
+    reads-unsettled F (a .said .now) (a .said .now) (a .out .now) _ _ (OrdinalMeans F) (sym (c .before .in-range .ensures) ∙ c .if1 .left) (refusal (a .out .now) 1)))

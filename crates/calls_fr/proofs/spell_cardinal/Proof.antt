@@ -9,7 +9,8 @@ use Rattle.figures.proofs.Laws.Sign.{formed-unsigned}
 use Rattle.phrase.specs.Phrase.{phrase}
 use Rattle.phrase.specs.Plan.{says}
 use Rattle.calls_fr.specs.Calls.{cardinalOf}
-use Rattle.calls_fr.proofs.Answers.{said-as, planned-cardinal}
+use Rattle.base.proofs.Replies.{heard}
+use Rattle.calls_fr.proofs.Answers.{planned-cardinal}
 use Rattle.calls_fr.proofs.spell_cardinal.Statement.{statement}
 use Rattle.calls_fr.proofs.spell_cardinal.Tie as tie
 
@@ -19,7 +20,7 @@ phrase-is c =
 
 returns : tie.Need-returns
 returns c =
-    (said-as (c .before .before .speak .ensures .0) (phrase-is (c .before .before .before .before .before .before)), omega (arith, c .before .before .speak .ensures .1, c .before .before .before .before .before .before .plan-cardinal .ensures .0))
+    (heard _ _ _ (phrase-is (c .before .before .before .before .before .before)) (c .before .before .speak .ensures .0), omega (arith, c .before .before .speak .ensures .1, c .before .before .before .before .before .before .plan-cardinal .ensures .0))
 
 pub spell-cardinal-spec : {M : Type 1} → statement M
 spell-cardinal-spec =

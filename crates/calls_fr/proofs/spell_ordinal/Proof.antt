@@ -10,7 +10,8 @@ use Rattle.phrase.specs.Phrase.{phrase}
 use Rattle.phrase.specs.Plan.{says}
 use Rattle.calls_fr.specs.Calls.{ordinalOf}
 use Rattle.calls_fr.proofs.Theorems.{small}
-use Rattle.calls_fr.proofs.Answers.{said-as, planned-ordinal, text-groups}
+use Rattle.base.proofs.Replies.{heard}
+use Rattle.calls_fr.proofs.Answers.{planned-ordinal, text-groups}
 use Rattle.calls_fr.proofs.spell_ordinal.Statement.{statement}
 use Rattle.calls_fr.proofs.spell_ordinal.Tie as tie
 
@@ -21,7 +22,7 @@ phrase-is c =
 
 returns : tie.Need-returns
 returns c =
-    (said-as (c .before .before .speak .ensures .0) (phrase-is (c .before .before .before .before .before .before)), omega (arith, c .before .before .speak .ensures .1, c .before .before .before .before .before .before .plan-ordinal .ensures .0))
+    (heard _ _ _ (phrase-is (c .before .before .before .before .before .before)) (c .before .before .speak .ensures .0), omega (arith, c .before .before .speak .ensures .1, c .before .before .before .before .before .before .plan-ordinal .ensures .0))
 
 pub spell-ordinal-spec : {M : Type 1} → statement M
 spell-ordinal-spec =

@@ -4,7 +4,8 @@ use mathlib.Core.Path.{_≡_, sym, _∙_}
 use native.Mathlib.Omega.{arith}
 use borrow.Author.Needs.{needs}
 use Rattle.uk.proofs.Ranges.{ranges}
-use Rattle.calls_money.proofs.Entries.{refusal, settings-only, no-code-read, phrase-next}
+use Rattle.base.proofs.Replies.{refusal}
+use Rattle.calls_money.proofs.Entries.{settings-only, no-code-read, phrase-next}
 use Rattle.calls_money.proofs.from_currency.Statement.{statement}
 use Rattle.calls_money.proofs.from_currency.Tie as tie
 

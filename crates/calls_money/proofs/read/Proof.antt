@@ -6,7 +6,8 @@ use borrow.Author.Needs.{needs}
 use Rattle.money.specs.Currencies.{currencyAt}
 use Rattle.read_money.specs.Promise.{ReadMoney}
 use Rattle.read_money.specs.declared.Seen.{Seen}
-use Rattle.calls_money.proofs.Entries.{refusal, seen-none, seen-some}
+use Rattle.base.proofs.Replies.{refusal}
+use Rattle.calls_money.proofs.Entries.{seen-none, seen-some}
 use Rattle.calls_money.proofs.read.Statement.{statement}
 use Rattle.calls_money.proofs.read.Tie as tie
 

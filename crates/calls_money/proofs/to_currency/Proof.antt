@@ -8,7 +8,8 @@ use borrow.Author.Needs.{needs}
 use Rattle.base.specs.Answer.{replied, Answers}
 use Rattle.figures.specs.Refusals.{refusalOf}
 use Rattle.uk.proofs.Ranges.{ranges}
-use Rattle.calls_money.proofs.Entries.{refusal, refusal-some, settings-first, no-code, text-next}
+use Rattle.base.proofs.Replies.{refusal, refusal-some}
+use Rattle.calls_money.proofs.Entries.{settings-first, no-code, text-next}
 use Rattle.calls_money.proofs.to_currency.Statement.{statement}
 use Rattle.calls_money.proofs.to_currency.Tie as tie
 

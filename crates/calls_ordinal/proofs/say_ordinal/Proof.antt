@@ -5,7 +5,7 @@ use native.Mathlib.Omega.{arith}
 use borrow.Author.Needs.{needs}
 use denote.Ref.{now}
 use Rattle.spell_ordinal.specs.Groups.{Groups22}
-use Rattle.calls_ordinal.proofs.Replies.{heard}
+use Rattle.base.proofs.Replies.{heard}
 use Rattle.calls_ordinal.proofs.Admitted.{groups, ordinal-said}
 use Rattle.calls_ordinal.proofs.say_ordinal.Statement.{statement}
 use Rattle.calls_ordinal.proofs.say_ordinal.Tie as tie

@@ -9,7 +9,7 @@ use mir.Facts.{toZ-ofZ}
 use Rattle.figures.specs.Groups.{groupsOf}
 use Rattle.ordinal.specs.Year.{early}
 use Rattle.spell_ordinal.specs.Groups.{Groups22}
-use Rattle.calls_ordinal.proofs.Replies.{heard}
+use Rattle.base.proofs.Replies.{heard}
 use Rattle.calls_ordinal.proofs.Admitted.{groups, year-said}
 use Rattle.calls_ordinal.proofs.say_year.Statement.{statement}
 use Rattle.calls_ordinal.proofs.say_year.Tie as tie

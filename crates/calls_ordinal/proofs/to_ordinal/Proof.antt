@@ -6,7 +6,7 @@ use borrow.Author.Needs.{needs}
 use denote.Ref.{now}
 use Rattle.uk.specs.Settings.{unlessSettings}
 use Rattle.calls_ordinal.specs.Calls.{refusedOrdinal}
-use Rattle.calls_ordinal.proofs.Replies.{said, refusal}
+use Rattle.base.proofs.Replies.{said, refused-as}
 use Rattle.calls_ordinal.proofs.Admitted.{unrefused, ordinal-digits}
 use Rattle.calls_ordinal.proofs.to_ordinal.Statement.{statement}
 use Rattle.calls_ordinal.proofs.to_ordinal.Tie as tie
@@ -25,7 +25,7 @@ returns c =
     (said _ _ _ _ _ (sym (c .before .before .before .before .before .before .refuse-ordinal .ensures) ∙ c .before .before .before .before .before .if1 .taken) (rw (q .0, q .1, q .2) at (c .before .before .say-ordinal .ensures .0)), c .before .before .say-ordinal .ensures .1)
 
 returns-2 : tie.Need-returns-2
-returns-2 c = (refusal _ _ _ _ _ (refl, refl) (c .before .refuse-ordinal .ensures) (c .if1 .left), omega arith)
+returns-2 c = (refused-as _ _ _ _ _ (refl, refl) (c .before .refuse-ordinal .ensures) (c .if1 .left), omega arith)
 
 pub to-ordinal-spec : {M : Type 1} → statement M
 to-ordinal-spec =

@@ -6,7 +6,7 @@ use native.Mathlib.Omega.{arith}
 use borrow.Author.Needs.{needs}
 use mir.Facts.{toZ-ofZ}
 use Rattle.calls_ordinal.specs.Calls.{yearPhrase}
-use Rattle.calls_ordinal.proofs.Replies.{said, refusal}
+use Rattle.base.proofs.Replies.{said, refused-as}
 use Rattle.uk.proofs.Ranges.{ranges}
 use Rattle.calls_ordinal.proofs.to_year.Statement.{statement}
 use Rattle.calls_ordinal.proofs.to_year.Tie as tie
@@ -25,7 +25,7 @@ returns-2 : tie.Need-returns-2
 returns-2 c =
     let a = c .before .before .before .args in (
       rw (sym (c .before .in-range .ensures) ∙ c .if1 .left)
-          (refusal _ _ (yearPhrase (a .number) (a .case) (a .year)) 1 1 (refl, refl) refl (λ e. omega arith)),
+          (refused-as _ _ (yearPhrase (a .number) (a .case) (a .year)) 1 1 (refl, refl) refl (λ e. omega arith)),
       omega arith,
     )
 

@@ -3,7 +3,7 @@
 use mathlib.Core.Path.{_≡_, sym, _∙_}
 use borrow.Author.Needs.{needs}
 use Rattle.uk.proofs.Ranges.{ranges}
-use Rattle.calls_uk.proofs.Entries.{refusal}
+use Rattle.base.proofs.Replies.{refusal}
 use Rattle.calls_uk.proofs.from_cardinal.Statement.{statement}
 use Rattle.calls_uk.proofs.from_cardinal.Tie as tie
 

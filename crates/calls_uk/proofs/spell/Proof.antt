@@ -12,6 +12,7 @@ use Rattle.figures.proofs.Laws.Plain.{plain-digits}
 use Rattle.figures.proofs.Laws.Sign.{formed-unsigned}
 use Rattle.phrase.specs.Phrase.{phrase}
 use Rattle.phrase.specs.Plan.{says}
+use Rattle.base.proofs.Replies.{heard}
 use Rattle.calls_uk.specs.Cardinals.{cardinal}
 use Rattle.calls_uk.proofs.Entries.{planned}
 use Rattle.calls_uk.proofs.spell.Statement.{statement}
@@ -38,4 +39,4 @@ spell-spec =
     (λ c. search needs)
     (λ c κs. let p = c .before .before .before .plan-cardinal in (omega (arith, p .ensures .0, p .kept .1 .1 .1 .1 .0), omega (arith, p .ensures .0)))
     (λ c. search needs)
-    (λ c. let a = c .before .before .before .before .before .before .before .before .before .before .before .before .before .before .before .args in (subst (λ (b : List ℕ). Answers (c .before .before .speak .result) (a .out .now) (c .before .before .speak .last .1 .1 .0) (fitted (a .out .now) b)) (phrase-is (c .before .before .before .before .before .before)) (c .before .before .speak .ensures .0), omega (arith, c .before .before .speak .ensures .1, c .before .before .before .before .before .before .plan-cardinal .ensures .0))))
+    (λ c. (heard _ _ _ (phrase-is (c .before .before .before .before .before .before)) (c .before .before .speak .ensures .0), omega (arith, c .before .before .speak .ensures .1, c .before .before .before .before .before .before .plan-cardinal .ensures .0))))

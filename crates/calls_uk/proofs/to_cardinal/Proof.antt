@@ -5,7 +5,7 @@ use native.Mathlib.Omega.{arith}
 use borrow.Author.Needs.{needs}
 use Rattle.calls_uk.specs.Cardinals.{refusedCardinal}
 use Rattle.calls_uk.proofs.Admitting.{to-admitted}
-use Rattle.calls_uk.proofs.Entries.{refusal-some}
+use Rattle.base.proofs.Replies.{refusal-some}
 use Rattle.calls_uk.proofs.to_cardinal.Statement.{statement}
 use Rattle.calls_uk.proofs.to_cardinal.Tie as tie
 

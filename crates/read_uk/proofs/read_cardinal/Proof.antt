@@ -6,7 +6,6 @@ use mathlib.Core.Bool.{Bool, true, false}
 use mathlib.Core.List.{List, [], _++_, append-nil}
 use native.Mathlib.Omega.{arith}
 use borrow.Author.Needs.{needs}
-use borrow.Author.Tests.{lt-ltb, le-ltb}
 use lib.Dec.{ltb, eqb}
 use lib.ListN.{length, take, drop}
 use lib.Seq.{length-take-le}
@@ -21,7 +20,7 @@ use Rattle.read_uk.specs.Reading.{sums, signed, unsigned}
 use Rattle.read_uk.proofs.Known.{lawful}
 use Rattle.read_uk.proofs.Falls.{sums-length}
 use Rattle.read_uk.proofs.Below.{zeros, zeros-groups}
-use Rattle.read_uk.proofs.Compared.{read-zero, read-signed, read-none, sign-is, words-stand}
+use Rattle.read_uk.proofs.Compared.{read, sign-is, words-stand}
 use Rattle.read_uk.proofs.read_cardinal.Statement.{statement}
 use Rattle.read_uk.proofs.read_cardinal.Tie as tie
 
@@ -63,40 +62,11 @@ decided c =
 
 returns : tie.Need-returns
 returns c =
-    let a = c .before .before .before .before .before .before .before .before .before .before .before .before .before .before .before .before in
-    let m = made (c .before .before .before .before .before .before .before .before .before .before .before) in (
-      read-zero _ (lawful (a .args .settings .gender) (a .args .settings .case) (a .pre .0) (a .pre .1)) (a .args .s .now) (c .before .before .before .before .before .before .before .before .before .before .before .groups .last .1 .1 .0) _ (m .size) (m .small) (m .sign) (m .groups)
-          (sym (c .before .before .before .before .before .before .before .before .is-zero .ensures) ∙ c .if2 .taken) (decided (c .before .before) .holds (c .before .if1 .taken)),
-      m .small,
-      m .size,
-    )
-
-returns-2 : tie.Need-returns-2
-returns-2 c =
-    let a = c .before .before .before .before .before .before .before .before .before .before .before .before .before .before .before .before .before in
-    let m = made (c .before .before .before .before .before .before .before .before .before .before .before .before) in (
-      read-signed _ (lawful (a .args .settings .gender) (a .args .settings .case) (a .pre .0) (a .pre .1)) (a .args .s .now) (c .before .before .before .before .before .before .before .before .before .before .before .before .groups .last .1 .1 .0) _ (m .size) (m .small) (m .sign) (m .groups)
-          true (lt-ltb _ _ (c .if3 .taken)) (sym (c .before .before .before .before .before .before .before .before .before .is-zero .ensures) ∙ c .before .if2 .left) (decided (c .before .before .before) .holds (c .before .before .if1 .taken)),
-      m .small,
-      m .size,
-    )
-
-returns-3 : tie.Need-returns-3
-returns-3 c =
-    let a = c .before .before .before .before .before .before .before .before .before .before .before .before .before .before .before .before .before in
-    let m = made (c .before .before .before .before .before .before .before .before .before .before .before .before) in (
-      read-signed _ (lawful (a .args .settings .gender) (a .args .settings .case) (a .pre .0) (a .pre .1)) (a .args .s .now) (c .before .before .before .before .before .before .before .before .before .before .before .before .groups .last .1 .1 .0) _ (m .size) (m .small) (m .sign) (m .groups)
-          false (le-ltb _ _ (c .if3 .left)) (sym (c .before .before .before .before .before .before .before .before .before .is-zero .ensures) ∙ c .before .if2 .left) (decided (c .before .before .before) .holds (c .before .before .if1 .taken)),
-      m .small,
-      m .size,
-    )
-
-returns-4 : tie.Need-returns-4
-returns-4 c =
     let a = c .before .before .before .before .before .before .before .before .before .before .before .before .before .before .before in
     let m = made (c .before .before .before .before .before .before .before .before .before .before) in (
-      read-none _ (lawful (a .args .settings .gender) (a .args .settings .case) (a .pre .0) (a .pre .1)) (a .args .s .now) (c .before .before .before .before .before .before .before .before .before .before .groups .last .1 .1 .0) _ (m .size) (m .small) (m .sign) (m .groups)
-          (decided (c .before) .fails (c .if1 .left)),
+      rw (c .seen-of .ensures)
+          (read _ (lawful (a .args .settings .gender) (a .args .settings .case) (a .pre .0) (a .pre .1)) (a .args .s .now) (c .before .before .before .before .before .before .before .before .before .before .groups .last .1 .1 .0) _ (m .size) (m .small) (m .sign) (m .groups) _ _
+          (c .before .before .before .before .before .before .before .is-zero .ensures) (decided (c .before))),
       m .small,
       m .size,
     )
@@ -110,4 +80,4 @@ pub read-cardinal-spec : {M : Type 1} → statement M
 read-cardinal-spec =
     tie.close
     (tie.spec (λ c κs. search needs) (λ c. search needs) (λ c. search needs) (λ c. search needs) (λ c κs. search needs) (λ c κs. search needs)
-    (λ c. search needs) (λ c κs. search needs) (λ c. search needs) slice-aggregate-stands (λ c κs. search needs) returns returns-2 returns-3 returns-4)
+    (λ c. search needs) (λ c κs. search needs) (λ c. search needs) slice-aggregate-stands (λ c κs. search needs) (λ c κs. search needs) returns)

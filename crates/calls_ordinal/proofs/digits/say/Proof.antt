@@ -12,7 +12,7 @@ use Rattle.words.specs.Text.{text as textOf}
 use Rattle.words.proofs.Banks.{text-short}
 use Rattle.ordinal.specs.DigitOrdinal.{digitOrdinal}
 use Rattle.phrase.proofs.Spoken.{too-long, written}
-use Rattle.calls_ordinal.proofs.Replies.{heard}
+use Rattle.base.proofs.Replies.{heard}
 use Rattle.calls_ordinal.proofs.Hyphened.{size-is, is-ordinal}
 use Rattle.calls_ordinal.proofs.digits.say.Statement.{statement}
 use Rattle.calls_ordinal.proofs.digits.say.Tie as tie

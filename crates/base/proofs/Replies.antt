@@ -1,0 +1,27 @@
+-- Answers against the replies that calls define.
+-- Assumes nothing.
+use Prim.Native.Nat.{ℕ, zero, suc}
+use mathlib.Core.Path.{_≡_, refl}
+use mathlib.Core.List.{List}
+use native.Mathlib.Omega.{arith}
+use Rattle.base.specs.Answer.{refused, fitted, replied, Answers}
+use Rattle.base.specs.declared.Answer.{Answer}
+
+pub refusal : (xs : List ℕ) (n : ℕ) → Answers (record { number = n; length = 0 }) xs xs (refused n 0)
+refusal xs n = record { number = refl; length = refl; buffer = refl }
+
+-- a refusal that is not 0
+pub refused-as : (r : Answer) (xs b : List ℕ) (n m : ℕ) → (r .number ≡ n) × (r .length ≡ 0) → n ≡ m → (n ≡ 0 → ⊥) → Answers r xs xs (replied m b xs)
+refused-as r xs b n zero a e z = absurd (z e)
+refused-as r xs b n (suc m) a e z = record { number = rw e at (a .0); length = a .1; buffer = refl }
+
+pub refusal-some : (xs b : List ℕ) (n m : ℕ) → n ≡ m → (n ≡ 0 → ⊥) → Answers (record { number = n; length = 0 }) xs xs (replied m b xs)
+refusal-some xs b n m e z = refused-as _ xs b n m (refl, refl) e z
+
+-- bytes where there is no refusal
+pub said : (r : Answer) (xs ys b : List ℕ) (m : ℕ) → m ≡ 0 → Answers r xs ys (fitted xs b) → Answers r xs ys (replied m b xs)
+said r xs ys b m e a = rw e a
+
+-- the same bytes
+pub heard : (r : Answer) (xs ys : List ℕ) {b c : List ℕ} → b ≡ c → Answers r xs ys (fitted xs b) → Answers r xs ys (fitted xs c)
+heard r xs ys e a = rw (← e) a
