@@ -139,7 +139,6 @@ use crate::texts;
 
     def lib_source(self):
         return '''// %s
-mod lengths; // lengths.rt: their lengths
 mod passes; // passes.rt: compares them
 mod puts; // puts.rt: writes them
 mod texts; // texts.rt: the byte strings
@@ -149,7 +148,9 @@ mod texts; // texts.rt: the byte strings
 pub fn len(id: u32) -> usize
     ensures { λ r. ⌜ (r ≡ length (textIn names id)) × (r < 40) ⌝ }
 {
-    ((lengths::eight(id / 8) >> (8 * (id %% 8))) %% 256) as usize
+    match id {
+%s        _ => 0,
+    }
 }
 
 // Writes the text with this number over the front of out.
@@ -171,6 +172,7 @@ pub fn pass(id: u32, s: &[u8]) -> usize
 ''' % (self.head,
        ghosts('mathlib.Core.Path.{_≡_}', 'Prim.Native.Nat.{_≤_, _<_}', 'lib.ListN.{length}', 'Rattle.base.specs.Bank.{textIn}', 'Rattle.base.specs.Buffer.{over}',
               'Rattle.base.specs.Front.{passed}', self.own),
+       ''.join('        %d => %d,\n' % (i, self.sizes[i]) for i in range(1, self.count)),
        WRITES % (TEXT, TEXT), PART, ''.join('        %d => puts::part%d(id, out),\n' % (j, j) for j in range(len(self.parts))),
        PASSES % TEXT, PART, ''.join('        %d => passes::part%d(id, s),\n' % (j, j) for j in range(len(self.parts))))
 
@@ -211,44 +213,21 @@ pub fn pass(id: u32, s: &[u8]) -> usize
             lines = ['(λ c κs. search needs)'] * n + [arm] * n + ['(λ c. %s names _ %d _ (c .match .rest) (lit≤ tt))' % (law, n)]
             self.proof(function, uses, lines, ': it leaves a number to the part that has it', 'names')
 
-    # the lengths of eight texts as one number, the first as its lowest byte
-    def eights(self):
-        for lo in range(0, self.count, 8):
-            digits = ''.join('%02x' % size for size in reversed((self.sizes + [0] * 8)[lo:lo + 8]))
-            yield '0x' + '_'.join(re.findall('....', digits))
-
-    def lengths_source(self):
-        return '''// The lengths of eight texts, of the numbers from 8 * row on: a byte for each, the first in the lowest.
-%s
-pub fn eight(row: u32) -> u64
-    ensures { λ r. ⌜ r ≡ lengths names (8 * row) 8 ⌝ }
-{
-    match row {
-%s        _ => 0,
-    }
-}
-''' % (ghosts('mathlib.Core.Path.{_≡_}', 'Prim.Native.Nat.{_*_}', 'Rattle.base.specs.Bank.{lengths}', self.own),
-       ''.join('        %d => %s,\n' % row for row in enumerate(self.eights())))
-
-    def len_proofs(self):
-        n = len(list(self.eights()))
-        uses = 'use mathlib.Core.Path.{refl}\nuse lib.Dec.{lit≤}\nuse Rattle.base.specs.Bank.{textIn, lengths}\nuse Rattle.base.proofs.Lengths as eights\nuse %s\n' % self.own
-        lines = ['(λ c. eights.eight names _ (c .match .keys%d) refl)' % q for q in range(1, n + 1)]
-        lines.append('(λ c. eights.past-eights names _ %d (c .match .rest) (lit≤ tt))' % n)
-        self.proof('lengths/eight', uses, lines, ': the number in each arm has the lengths of its texts, as antt computes them', 'textIn lengths names')
-        uses = 'use mathlib.Core.Path.{refl}\n' + NEEDS + 'use Rattle.base.specs.Bank.{textIn}\nuse Rattle.base.proofs.Lengths.{counted}\nuse %s\n' % self.own
-        self.proof('len', uses, ['(λ c κs. search needs) (λ c. search needs) (λ c. search needs) (λ c. search needs)', '(λ c. counted names refl _ _ (c .eight .ensures) refl)'], ': one byte of eight lengths', 'textIn names')
+    def len_proof(self):
+        uses = 'use mathlib.Core.Path.{refl}\nuse lib.Dec.{lit<, lit≤}\nuse Rattle.base.specs.Bank.{textIn}\nuse Rattle.base.proofs.Arms.{counts, uncounted}\nuse %s\n' % self.own
+        lines = ['(λ c. counts names _ (c .match .keys%d) (refl, lit< tt))' % i for i in range(1, self.count)]
+        lines.append('(λ c. uncounted names refl _ %d (c .match .rest) (lit≤ tt))' % (self.count - 1))
+        self.proof('len', uses, lines, ': the number in each arm is the length of its text, as antt computes it', 'textIn names')
 
     def generate(self):
         self.remove('proofs')
         self.remove('src')
         self.write('proofs/Lib.antt', '')
         self.write('src/lib.rt', self.lib_source())
-        self.write('src/lengths.rt', self.lengths_source())
         self.write('src/texts.rt', self.texts_source())
         self.write('src/puts.rt', self.puts_source())
         self.write('src/passes.rt', self.passes_source())
-        self.len_proofs()
+        self.len_proof()
         self.dispatch_proofs()
         for j in range(len(self.parts)):
             self.part_proofs(j)

@@ -6,6 +6,7 @@ use mathlib.Core.Path.{_≡_, refl, sym, ap, _∙_}
 use mathlib.Core.Bool.{Bool, true, false}
 use mathlib.Core.List.{List, [], _∷_, _++_}
 use native.Mathlib.Omega.{arith}
+use lib.Dec.{lit<}
 use lib.ListN.{length, take, drop, List·getD-eq-default}
 use lib.Seq.{take-length}
 use Rattle.base.specs.Utf8.{utf8}
@@ -44,7 +45,7 @@ below : (i n : ℕ) → None 1 i n → i < 1 + n → i ≡ 0
 below zero n t g = refl
 below (suc i) n t g = absurd (out-of 1 (suc i) n t (omega arith) g)
 
--- an arm's room, what it wrote and what it compared, its number put for i
+-- an arm's room, what it wrote and what it counted, its number put for i
 module _ (names : List String) where
   pub need : {i k n : ℕ} → i ≡ k → length (textIn names i) ≤ n → length (textIn names k) ≤ n
   need e h = rw (sym e) h
@@ -52,10 +53,13 @@ module _ (names : List String) where
   pub gives : {i k : ℕ} (r : ℕ) (xs ys : List ℕ) → i ≡ k → Wrote r xs ys (textIn names k) → Wrote r xs ys (textIn names i)
   gives r xs ys e g = rw e g
 
+  pub counts : {i k : ℕ} (r : ℕ) → i ≡ k → (r ≡ length (textIn names k)) × (r < 40) → (r ≡ length (textIn names i)) × (r < 40)
+  counts r e g = rw e g
+
   pub fronts : {i k : ℕ} (r : ℕ) (s : List ℕ) → i ≡ k → r ≡ passed (textIn names k) s → r ≡ passed (textIn names i) s
   fronts r s e g = rw e g
 
-  pub empty : (i : ℕ) → length names ≤ i → textIn names i ≡ []
+  empty : (i : ℕ) → length names ≤ i → textIn names i ≡ []
   unfolding textIn
   empty i h = ap utf8 (List·getD-eq-default names "" h)
 
@@ -88,3 +92,7 @@ module _ (names : List String) where
     pub first-front : (i n : ℕ) (s : List ℕ) → None 1 i n → i < 1 + n → 1 ≡ passed (textIn names i) s
     unfolding passed
     first-front i n s t g = rw (below i n t g, zeroth) refl
+
+    pub uncounted : (i n : ℕ) → None 1 i n → length names ≤ 1 + n → (0 ≡ length (textIn names i)) × (0 < 40)
+    uncounted zero n t k = rw zeroth (refl, lit< tt)
+    uncounted (suc i) n t k = let l : 1 + n ≤ suc i = beyond 1 (suc i) n t (omega arith) in rw (empty (suc i) (omega arith)) (refl, lit< tt)
