@@ -10,6 +10,7 @@ use borrow.Author.Tests.{eq-eqb, ne-eqb, eqb-true}
 use lib.Dec.{eqb}
 use lib.ListN.{length, getD, take, drop, drop-of-length-le}
 use lib.Seq.{drop-cons}
+use Rattle.tables.proofs.Tests.{clash-of, both-hold}
 use Rattle.base.specs.Front.{begins, passed}
 use Rattle.base.specs.Four.{Four}
 
@@ -37,15 +38,11 @@ pub all-on : (w s : List ℕ) (i : ℕ) → length w ≤ i → begins w s ≡ be
 all-on w s i h p = rw (p, drop-of-length-le w {i = i} h) refl
 
 -- what begins with w is w and a rest
-pub and-both : (a b : Bool) → (a && b) ≡ true → (a ≡ true) × (b ≡ true)
-and-both true b e = (refl, e)
-and-both false b e = let z : _≡_ {A = ℕ} 0 1 = cc in absurd (omega arith)
-
 pub begins-is : (w s : List ℕ) → begins w s ≡ true → w ++ drop (length w) s ≡ s
 begins-is [] s e = refl
-begins-is (b ∷ w) [] e = let z : _≡_ {A = ℕ} 0 1 = cc in absurd (omega arith)
+begins-is (b ∷ w) [] e = clash-of e
 begins-is (b ∷ w) (c ∷ s) e =
-    let t = and-both (eqb b c) (begins w s) e in
+    let t = both-hold (eqb b c) (begins w s) e in
     rw (eqb-true b c (t .0), begins-is w s (t .1)) refl
 
 pub begins-own : (w t : List ℕ) → begins w (w ++ t) ≡ true
@@ -63,9 +60,9 @@ passed-false w s e = rw e refl
 -- four places at a time: the bytes of a text that begins with w are w's, and four bytes are told by their number
 agree : (w s : List ℕ) → begins w s ≡ true → (j : ℕ) → j < length w → getD s j 0 ≡ getD w j 0
 agree [] s e j h = absurd (omega arith)
-agree (b ∷ w) [] e j h = let z : _≡_ {A = ℕ} 0 1 = cc in absurd (omega arith)
-agree (b ∷ w) (c ∷ s) e zero h = sym (eqb-true b c (and-both (eqb b c) (begins w s) e .0))
-agree (b ∷ w) (c ∷ s) e (suc j) h = agree w s (and-both (eqb b c) (begins w s) e .1) j (omega arith)
+agree (b ∷ w) [] e j h = clash-of e
+agree (b ∷ w) (c ∷ s) e zero h = sym (eqb-true b c (both-hold (eqb b c) (begins w s) e .0))
+agree (b ∷ w) (c ∷ s) e (suc j) h = agree w s (both-hold (eqb b c) (begins w s) e .1) j (omega arith)
 
 apart : (x y p q : ℕ) → x < 256 → y < 256 → x + p * 256 ≡ y + q * 256 → (x ≡ y) × (p ≡ q)
 apart x y p q a b e =

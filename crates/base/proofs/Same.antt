@@ -8,11 +8,9 @@ use native.Mathlib.Omega.{arith}
 use borrow.Author.Tests.{eq-eqb, eqb-true}
 use lib.Dec.{eqb}
 use lib.ListN.{length}
+use Rattle.tables.proofs.Tests.{clash, both-hold}
 use Rattle.base.specs.Same.{sameText}
-use Rattle.base.proofs.Fronts.{and-false, and-both}
-
-clash : {A : Type 0} → true ≡ false → A
-clash e = let z : _≡_ {A = ℕ} 0 1 = cc in absurd (omega arith)
+use Rattle.base.proofs.Fronts.{and-false}
 
 -- where it holds they are equal
 pub same-is : (w s : List ℕ) → sameText w s ≡ true → w ≡ s
@@ -20,7 +18,7 @@ same-is [] [] e = refl
 same-is [] (b ∷ s) e = clash (sym e)
 same-is (a ∷ w) [] e = clash (sym e)
 same-is (a ∷ w) (b ∷ s) e =
-    let t = and-both (eqb a b) (sameText w s) e in
+    let t = both-hold (eqb a b) (sameText w s) e in
     rw (eqb-true a b (t .0), same-is w s (t .1)) refl
 
 -- and where it does not hold they are not

@@ -7,6 +7,7 @@ use mathlib.Core.List.{List}
 use native.Mathlib.Omega.{arith}
 use borrow.Author.Tests.{lt-ltb, le-ltb}
 use lib.Dec.{ltb, eqb}
+use Rattle.tables.proofs.Tests.{clash-of as clash}
 use Rattle.base.specs.Answer.{refused, fitted, replied, Answers, Reads, ReadsUnless}
 use Rattle.base.specs.declared.Answer.{Answer}
 use Rattle.base.proofs.Replies.{refusal, refusal-some}
@@ -21,9 +22,6 @@ use Rattle.fr.specs.declared.French.{French}
 use Rattle.spell_fr.specs.Top.{Groups34}
 use Rattle.read_fr.specs.Promise.{ReadNth}
 use Rattle.calls_fr.specs.Calls.{inRange, firstRefusal, settingsRefusal, cardinalOf, ordinalOf, OrdinalMeans}
-
-clash : {A : Type 0} → false ≡ true → A
-clash e = let z : _≡_ {A = ℕ} 0 1 = cc in absurd (omega arith)
 
 -- settings
 module _ (F : French) where

@@ -9,6 +9,7 @@ use native.Mathlib.Omega.{arith}
 use borrow.Author.Tests.{ltb-true}
 use lib.Dec.{ltb}
 use lib.ListN.{length}
+use Rattle.tables.proofs.Tests.{clash-of as clash}
 use Rattle.base.specs.Claim.{Readable}
 use Rattle.figures.specs.Text.{value, wellFormed, negative, unsigned, signedText}
 use Rattle.figures.specs.Refusals.{judgeDigits, refusalOf}
@@ -24,9 +25,6 @@ use Rattle.fr.specs.declared.French.{French}
 use Rattle.fr.proofs.Sentences.{says, said, says-nth, said-nth}
 use Rattle.read_fr.proofs.Decided.{says-once, says-decided, nth-once, nth-decided}
 use Rattle.calls_fr.specs.Calls.{inRange, CardinalAdmitted, OrdinalAdmitted, cardinalOf, ordinalOf, CardinalMeans, OrdinalMeans}
-
-clash : {A : Type 0} → false ≡ true → A
-clash e = let z : _≡_ {A = ℕ} 0 1 = cc in absurd (omega arith)
 
 -- what an admitted text is
 pub admitted : (signed : Bool) (xs : List ℕ) → refusalOf (judgeDigits signed 102 xs) ≡ 0 → Admitted (wellFormed xs) (negative xs && not signed) (length (unsigned xs)) 102

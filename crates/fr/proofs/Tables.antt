@@ -15,8 +15,8 @@ use Rattle.fr.specs.FrTables.{units, tens, teens, megas}
 use Rattle.fr.specs.Rules.{isReformed, inCH, isMille, joiner, centWord, countsOn, fourTwenties, isUne, unitWord, tenWord, roundWord}
 use Rattle.fr.specs.Numbered.{Numbered}
 use Rattle.fr.specs.declared.French.{French}
-use Rattle.tables.proofs.Tests.{all}
-use Rattle.fr.proofs.Tests.{all-at, both, both-at, split, numbered?, numbered}
+use Rattle.tables.proofs.Tests.{both-hold, all}
+use Rattle.fr.proofs.Tests.{all-at, both, both-at, numbered?, numbered}
 use Rattle.fr.proofs.Deciders.{mille-not}
 
 -- units, and `une`
@@ -76,7 +76,7 @@ module _ (F : French) (t : ℕ) where
   pub twenties-word : fourTwenties F t ≡ true → Numbered 288 (tenWord F t)
   unfolding tenWord form1 tens text textIn names
   twenties-word e =
-      let p = split (eqb t 8) (not (inCH F)) e in
+      let p = both-hold (eqb t 8) (not (inCH F)) e in
       rw (eqb-true t 8 (p .0), not-true (inCH F) (p .1)) (numbered 288 (utf8 "quatre-vingt") tt)
 
   module _ (k : ℕ) where

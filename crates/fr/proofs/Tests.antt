@@ -10,7 +10,7 @@ use lib.Dec.{T, eqb, ltb}
 use Rattle.base.specs.Join.{Word}
 use Rattle.base.specs.Same.{sameText}
 use Rattle.base.proofs.Same.{same-is}
-use Rattle.tables.proofs.Tests.{all, all-at as all-true}
+use Rattle.tables.proofs.Tests.{clash-of, all, all-at as all-true}
 use Rattle.words.specs.Text.{text}
 use Rattle.fr.specs.Numbered.{Known, Numbered}
 
@@ -20,7 +20,7 @@ yes-of false t = absurd t
 
 of-yes : (b : Bool) → b ≡ true → T b
 of-yes true e = tt
-of-yes false e = let z : _≡_ {A = ℕ} 0 1 = cc in absurd (omega arith)
+of-yes false e = clash-of e
 
 pub and-left : (a b : Bool) → T (a && b) → T a
 and-left true b t = tt
@@ -29,10 +29,6 @@ and-left false b t = t
 pub and-right : (a b : Bool) → T (a && b) → T b
 and-right true b t = t
 and-right false b t = absurd t
-
-pub split : (a b : Bool) → (a && b) ≡ true → (a ≡ true) × (b ≡ true)
-split true b e = (refl, e)
-split false b e = let z : _≡_ {A = ℕ} 0 1 = cc in absurd (omega arith)
 
 -- a test of each of the n numbers from lo on, at one of them
 pub all-at : (lo n : ℕ) (f : ℕ → Bool) → T (all lo n f) → (i : ℕ) → lo ≤ i → i < lo + n → T (f i)

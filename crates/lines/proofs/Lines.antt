@@ -8,11 +8,9 @@ use native.Mathlib.Omega.{arith}
 use borrow.Author.Tests.{ne-eqb, lt-leb}
 use lib.Dec.{eqb}
 use lib.ListN.{length, length-append}
+use Rattle.tables.proofs.Tests.{clash-of as clash}
 use Rattle.answers.specs.Answers.{answerLine, badLine}
 use Rattle.lines.specs.Program.{toFirst, parts, lastAnswer, answers, program, isLine}
-
-clash : {A : Type 0} → false ≡ true → A
-clash e = let z : _≡_ {A = ℕ} 0 1 = cc in absurd (omega arith)
 
 -- a line's bytes put before the first line
 before : List ℕ → List (List ℕ) → List (List ℕ)

@@ -10,6 +10,7 @@ use native.Mathlib.Numerals.{add-one}
 use lib.ListN.{length, getD, drop, length-append, length-drop, drop-of-length-le}
 use lib.Seq.{drop-append-seam, drop-cons, drop-drop}
 use borrow.Author.Tests.{eq-eqb, ne-eqb}
+use Rattle.tables.proofs.Tests.{clash-of as clash}
 use Rattle.base.specs.Decides.{Decides}
 use Rattle.words.specs.Text.{text}
 use Rattle.base.specs.Front.{begins, passed}
@@ -18,9 +19,6 @@ use Rattle.phrase.specs.Phrase.{Piece, gap, following, phrase}
 use Rattle.phrase.specs.Plan.{pieceOf, pieces}
 use Rattle.phrase.specs.Stands.{isNil, stands}
 use Rattle.phrase.proofs.Laws.{from, from-is, none, first-phrase, bare, spaced}
-
-clash : {A : Type 0} → false ≡ true → A
-clash e = let z : _≡_ {A = ℕ} 0 1 = cc in absurd (omega arith)
 
 -- a front that is passed, or not
 pub passed-some : (w s : List ℕ) (n : ℕ) → n ≡ passed w s → (n ≡ 0 → ⊥) → (begins w s ≡ true) × (n ≡ suc (length w))

@@ -7,6 +7,7 @@ use mathlib.Core.List.{List, [], _∷_, _++_, append-nil, append-assoc}
 use native.Mathlib.Omega.{arith}
 use borrow.Author.Tests.{ltb-true, lt-ltb, le-ltb, ne-eqb, eqb-true}
 use lib.Dec.{eqb, ltb}
+use Rattle.tables.proofs.Tests.{both-hold}
 use Rattle.base.specs.Utf8.{utf8, form1}
 use Rattle.fr.specs.FrTables.{units, megas}
 use Rattle.fr.specs.Rules.{InRange, isMille, centWord, hundredWords, lowWords, numberWords, scaleWords, groupWords}
@@ -15,16 +16,12 @@ use Rattle.read_fr.specs.Reading.{meanings, grow, times, one, guess, see
 use Rattle.read_fr.proofs.Splits.{sense, sense-append, Sounds, sounds-append}
 use Rattle.read_fr.proofs.Known.{Known, unit-known, mille-known, scale-known, cent-known, cents-known, grows, smalls, low-adds}
 
-both-true : (a b : Bool) → (a && b) ≡ true → (a ≡ true) × (b ≡ true)
-both-true true b e = (refl, e)
-both-true false b e = let z : _≡_ {A = ℕ} 0 1 = cc in absurd (omega arith)
-
 -- words below a hundred add up
 seems-small : (h c : ℕ) (ms R : List ℕ) → smalls ms ≡ true → seems h c (ms ++ R) ≡ seems h (grows c ms) R
 unfolding seems
 seems-small h c [] R e = refl
 seems-small h c (m ∷ ms) R e =
-    let p = both-true (ltb m 100) (smalls ms) e in
+    let p = both-hold (ltb m 100) (smalls ms) e in
     let l = ltb-true m 100 (p .0) in
     rw (le-ltb 100 m (omega arith), ne-eqb m 100 (λ q. omega arith)) (seems-small h (grow c m) ms R (p .1))
 
@@ -124,7 +121,7 @@ module _ (F : French) (v : InRange F) where
 
       go : (t : Bool) → (isMille k && eqb g 1) ≡ t → seems 0 0 (sense (cond t [] (numberWords F k g) ++ scaleWords k g) ++ R) ≡ guess g k R
       go true e =
-          let q = both-true (isMille k) (eqb g 1) e in
+          let q = both-hold (isMille k) (eqb g 1) e in
           rw (s, eqb-true g 1 (q .1)) (seems-scale 0 0 (1000 + k) R (omega arith) ∙ rw o refl)
       go false e =
           let u : one (100 * (g / 100 % 10) + (10 * (g / 10 % 10) + g % 10)) ≡ g = rw (digits g l, ne-eqb g 0 (λ z. omega arith)) refl in

@@ -7,6 +7,7 @@ use mathlib.Core.List.{List, [], _∷_, _++_, append-nil, append-assoc, map, map
 use native.Mathlib.Omega.{arith}
 use borrow.Author.Tests.{not-true}
 use lib.ListN.{length, length-append}
+use Rattle.tables.proofs.Tests.{clash-of as clash}
 use Rattle.base.specs.Utf8.{utf8}
 use Rattle.base.specs.Join.{Word}
 use Rattle.tokens.specs.Tokens.{isGap, toFirst, split}
@@ -21,9 +22,6 @@ abbrev pub closed : Word → Bool
 closed [] = false
 closed (b ∷ []) = not (isGap b)
 closed (b ∷ c ∷ w) = closed (c ∷ w)
-
-clash : {A : Type 0} → false ≡ true → A
-clash e = let z : _≡_ {A = ℕ} 0 1 = cc in absurd (omega arith)
 
 first-in : (b : ℕ) (s : List ℕ) (us : List Word) → 0 < length s → toFirst b (split s ++ us) ≡ toFirst b (split s) ++ us
 first-in b s us h = rw (split-first s h) refl

@@ -8,6 +8,7 @@ use native.Mathlib.Omega.{arith}
 use borrow.Author.Tests.{eqb-true}
 use lib.Dec.{eqb}
 use lib.ListN.{getD}
+use Rattle.tables.proofs.Tests.{both-hold}
 use Rattle.base.specs.Utf8.{utf8, form1}
 use Rattle.base.specs.Join.{Word}
 use Rattle.fr.specs.FrTables.{units, tens, teens, megas}
@@ -15,7 +16,6 @@ use Rattle.fr.specs.Rules.{isReformed, inFR, isMille, joiner, spacedBy, centWor
 use Rattle.fr.specs.Cardinal.{groupOf, groupsBelow, cardinalWords}
 use Rattle.fr.specs.declared.French.{French}
 use Rattle.fr.proofs.Deciders.{mille-not}
-use Rattle.fr.proofs.Tests.{split}
 
 either : {P : Type 0} (a b : Bool) → (a || b) ≡ true → (a ≡ true → P) → (b ≡ true → P) → P
 either true b e f g = f refl
@@ -65,18 +65,18 @@ module _ (F : French) where
   -- tens and units
   pub counts-below : (t : ℕ) → countsOn F t ≡ true → countsOn F (t - 1) ≡ false
   counts-below t e =
-      let p = split (inFR F) (eqb t 7 || eqb t 9) e in
+      let p = both-hold (inFR F) (eqb t 7 || eqb t 9) e in
       either (eqb t 7) (eqb t 9) (p .1) (λ q. rw (eqb-true t 7 q, p .0) refl) (λ q. rw (eqb-true t 9 q, p .0) refl)
 
   pub counts-high : (t : ℕ) → countsOn F t ≡ true → 1 < t - 1
   counts-high t e =
-      let p = split (inFR F) (eqb t 7 || eqb t 9) e in
+      let p = both-hold (inFR F) (eqb t 7 || eqb t 9) e in
       either (eqb t 7) (eqb t 9) (p .1) (λ q. omega (arith, eqb-true t 7 q)) (λ q. omega (arith, eqb-true t 9 q))
 
   counted-round : (k t : ℕ) → countsOn F t ≡ true → tenWord F (t - 1) ++ (45 ∷ form1 teens 0) ≡ roundWord F k t
   unfolding tenWord roundWord form1 tens teens
   counted-round k t e =
-      let p = split (inFR F) (eqb t 7 || eqb t 9) e in
+      let p = both-hold (inFR F) (eqb t 7 || eqb t 9) e in
       let r = eqb-true (F .region) 0 (p .0) in
       either (eqb t 7) (eqb t 9) (p .1) (λ q. rw (eqb-true t 7 q, r) refl) (λ q. rw (eqb-true t 9 q, r) refl)
 

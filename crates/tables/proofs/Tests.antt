@@ -9,14 +9,19 @@ use native.Mathlib.Decide.{ℕ-discrete}
 pub clash : {A : Type 0} → true ≡ false → A
 clash e = let z : _≡_ {A = ℕ} 0 1 = cc in absurd (omega arith)
 
+pub clash-of : {A : Type 0} → false ≡ true → A
+clash-of e = clash (sym e)
+
 -- both parts of a test
+pub both-hold : (a b : Bool) → (a && b) ≡ true → (a ≡ true) × (b ≡ true)
+both-hold true b e = (refl, e)
+both-hold false b e = clash-of e
+
 pub and-left : (a b : Bool) → (a && b) ≡ true → a ≡ true
-and-left true b e = refl
-and-left false b e = e
+and-left a b e = both-hold a b e .0
 
 pub and-right : (a b : Bool) → (a && b) ≡ true → b ≡ true
-and-right true b e = e
-and-right false b e = clash (sym e)
+and-right a b e = both-hold a b e .1
 
 -- a test of each of the n numbers from lo on
 abbrev pub all : ℕ → ℕ → (ℕ → Bool) → Bool

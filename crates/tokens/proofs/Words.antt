@@ -6,9 +6,11 @@ use mathlib.Core.Bool.{Bool, true, false, cond, _&&_, _||_, not}
 use mathlib.Core.List.{List, [], _∷_, _++_, append-nil}
 use native.Mathlib.Omega.{arith}
 use native.Mathlib.Numerals.{add-one}
+use borrow.Author.Tests.{not-true}
 use lib.Dec.{eqb}
 use lib.ListN.{length, getD, drop, drop-of-length-le}
 use lib.Seq.{drop-cons}
+use Rattle.tables.proofs.Tests.{clash, clash-of, both-hold}
 use Rattle.base.specs.Join.{Word, spaced, joined}
 use Rattle.tokens.specs.Tokens.{isGap, firstWord, afterWord, toFirst, split, keyFrom, key, Begun, Took, Turned}
 
@@ -60,30 +62,22 @@ isWord [] = false
 isWord (b ∷ []) = not (isGap b)
 isWord (b ∷ c ∷ w) = not (isGap b) && isWord (c ∷ w)
 
-split-and : (a b : Bool) → (a && b) ≡ true → (a ≡ true) × (b ≡ true)
-split-and true b e = (refl, e)
-split-and false b e = let z : _≡_ {A = ℕ} 0 1 = cc in absurd (omega arith)
-
-not-true : (a : Bool) → not a ≡ true → a ≡ false
-not-true true e = let z : _≡_ {A = ℕ} 0 1 = cc in absurd (omega arith)
-not-true false e = refl
-
 -- a word before a gap, and a word alone
 pub split-more : (w : Word) (g : ℕ) (r : List ℕ) → isWord w ≡ true → isGap g ≡ true → split (w ++ (g ∷ r)) ≡ w ∷ split r
 unfolding split
-split-more [] g r h e = let z : _≡_ {A = ℕ} 0 1 = cc in absurd (omega arith)
+split-more [] g r h e = clash-of h
 split-more (b ∷ []) g r h e = rw (not-true (isGap b) h, e) refl
 split-more (b ∷ c ∷ w) g r h e =
-    let p = split-and (not (isGap b)) (isWord (c ∷ w)) h in
+    let p = both-hold (not (isGap b)) (isWord (c ∷ w)) h in
     let m : split ((c ∷ w) ++ (g ∷ r)) ≡ (c ∷ w) ∷ split r = split-more (c ∷ w) g r (p .1) e in
     rw (not-true (isGap b) (p .0)) (ap (toFirst b) m)
 
 pub split-last : (w : Word) → isWord w ≡ true → split w ≡ w ∷ []
 unfolding split
-split-last [] h = let z : _≡_ {A = ℕ} 0 1 = cc in absurd (omega arith)
+split-last [] h = clash-of h
 split-last (b ∷ []) h = rw (not-true (isGap b) h) refl
 split-last (b ∷ c ∷ w) h =
-    let p = split-and (not (isGap b)) (isWord (c ∷ w)) h in
+    let p = both-hold (not (isGap b)) (isWord (c ∷ w)) h in
     let m : split (c ∷ w) ≡ (c ∷ w) ∷ [] = split-last (c ∷ w) (p .1) in
     rw (not-true (isGap b) (p .0)) (ap (toFirst b) m)
 
@@ -110,10 +104,10 @@ module _ (s : List ℕ) (i k : ℕ) (l : k < 65536) (b : Begun s i k) where
   begun-on m n e f h g = rw (e, f) (word-goes-on s i h k (b .0) (b .1) g)
 
   pub turned-gap : i < length s → isGap (getD s i 0) ≡ true → Turned s i 1 true k (i + 1)
-  turned-gap h g = record { small = l; ends = λ _. took-gap (i + 1) refl h g; goes-on = λ e. let z : _≡_ {A = ℕ} 0 1 = cc in absurd (omega arith) }
+  turned-gap h g = record { small = l; ends = λ _. took-gap (i + 1) refl h g; goes-on = clash }
 
   pub turned-on : (m : ℕ) → m ≡ (k * 371 + getD s i 0) % 65536 → m < 65536 → i < length s → isGap (getD s i 0) ≡ false → Turned s i 1 false m (i + 1)
-  turned-on m f d h g = record { small = d; ends = λ e. let z : _≡_ {A = ℕ} 0 1 = cc in absurd (omega arith); goes-on = λ _. begun-on m (i + 1) refl f h g }
+  turned-on m f d h g = record { small = d; ends = clash-of; goes-on = λ _. begun-on m (i + 1) refl f h g }
 
 -- bytes among which the word has ended, however many more are meant; and bytes after bytes
 pub turned-ended : {s : List ℕ} {i n k m : ℕ} {e : Bool} (q : ℕ) → Turned s i n e k m → e ≡ true → Turned s i q e k m
