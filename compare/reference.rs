@@ -4,22 +4,22 @@
 //! them: the trait, the two enums that the builder names, and the way from a name to a language.
 
 pub mod currency {
-    include!(concat!(env!("YOKEPEAR_SOURCES"), "/src/currency.rs"));
+    include!(concat!(env!("YOKEPEAR_SOURCES"), "/", "src/currency.rs"));
 }
 
 pub mod num2words {
-    include!(concat!(env!("YOKEPEAR_SOURCES"), "/src/num2words.rs"));
+    include!(concat!(env!("YOKEPEAR_SOURCES"), "/", "src/num2words.rs"));
 }
 
 pub mod lang {
     use crate::{Lang, Language};
 
     pub mod uk {
-        include!(concat!(env!("YOKEPEAR_SOURCES"), "/src/lang/uk.rs"));
+        include!(concat!(env!("YOKEPEAR_SOURCES"), "/", "src/lang/uk.rs"));
     }
 
     pub mod fr {
-        include!(concat!(env!("YOKEPEAR_SOURCES"), "/src/lang/fr.rs"));
+        include!(concat!(env!("YOKEPEAR_SOURCES"), "/", "src/lang/fr.rs"));
     }
 
     /// The builder stands above what is compared, so its preferences are not followed.
