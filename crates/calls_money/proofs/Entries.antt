@@ -1,27 +1,23 @@
 -- The calls' answers against their definitions.
 -- Assumes nothing.
-use Prim.Native.Nat.{ℕ, zero, suc, _<_, _≤_}
+use Prim.Native.Nat.{ℕ, _<_, _≤_}
 use mathlib.Core.Path.{_≡_, refl, sym, ap, _∙_, subst}
-use mathlib.Core.Bool.{Bool, true, false, cond}
+use mathlib.Core.Bool.{Bool, true, false}
 use mathlib.Core.List.{List}
 use native.Mathlib.Omega.{arith}
 use borrow.Author.Tests.{lt-ltb, le-ltb}
-use lib.Dec.{eqb, ltb}
+use lib.Dec.{eqb}
 use Rattle.base.specs.Join.{joined}
-use Rattle.base.specs.Answer.{refused, fitted, replied, Answers, Reads as ReadsAs}
+use Rattle.base.specs.Answer.{refused, fitted, Answers, Reads as ReadsAs}
 use Rattle.base.specs.declared.Answer.{Answer}
 use Rattle.figures.specs.Text.{value, unsigned}
 use Rattle.figures.specs.Groups.{groupsOf, total}
 use Rattle.figures.specs.Money.{wholeText, hundredthsText, moneyText}
-use Rattle.figures.specs.Refusals.{refusalOf, judgeMoney}
-use Rattle.figures.specs.declared.Judged.{Judged}
 use Rattle.uk.specs.Settings.{inRange}
 use Rattle.money.specs.Currencies.{Currency}
 use Rattle.money.specs.Codes.{placeOf}
 use Rattle.money.specs.Money.{moneyWords}
-use Rattle.money.specs.MoneyGrammar.{SaysMoney}
 use Rattle.read_money.specs.Promise.{ReadMoney}
-use Rattle.read_money.specs.declared.Seen.{Seen}
 use Rattle.read_money.specs.declared.Seen.the-variants.{Refused, Amount}
 use Rattle.calls_money.specs.MoneyCalls.{refusedText, refusedCode, refusedAmount, moneyPhrase, Means}
 

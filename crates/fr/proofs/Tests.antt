@@ -4,7 +4,6 @@ use Prim.Native.Nat.{ℕ, _+_, _<_, _≤_}
 use mathlib.Core.Path.{_≡_, refl}
 use mathlib.Core.Bool.{Bool, true, false, not, _&&_}
 use mathlib.Core.List.{List}
-use native.Mathlib.Omega.{arith}
 use borrow.Author.Tests.{eqb-false, ltb-true, not-true}
 use lib.Dec.{T, eqb, ltb}
 use Rattle.base.specs.Join.{Word}

@@ -1,11 +1,11 @@
 -- A reader's promise and the answer that is written: what a reading call promises.
 -- Assumes nothing.
 use Prim.Native.Nat.{ℕ}
-use mathlib.Core.Path.{_≡_, refl, sym, ap, _∙_, subst}
+use mathlib.Core.Path.{_≡_, refl}
 use mathlib.Core.Bool.{Bool, true, false}
 use mathlib.Core.List.{List}
 use native.Mathlib.Omega.{arith}
-use Rattle.base.specs.Answer.{Answers, Reads, refused, fitted}
+use Rattle.base.specs.Answer.{Answers, Reads, fitted}
 use Rattle.base.specs.declared.Answer.{Answer}
 use Rattle.figures.specs.Text.{signedText}
 use Rattle.figures.specs.Groups.{total}

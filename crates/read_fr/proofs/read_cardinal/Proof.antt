@@ -1,7 +1,7 @@
 -- `read_fr::read_cardinal` meets its contract.
 -- Assumes nothing.
 use borrow.Author.Needs.{needs}
-use mathlib.Core.Path.{_≡_, refl}
+use mathlib.Core.Path.{_≡_}
 use lib.Dec.{lit<}
 use Rattle.read_fr.specs.Reading.{meanings, unsigned, guessed}
 use Rattle.read_fr.proofs.Promises.{are-groups, behind, read}

@@ -1,13 +1,13 @@
 -- `read_uk::read_cardinal` meets its contract: what is made of the bytes is compared with the words that it has.
 -- Assumes nothing.
-use Prim.Native.Nat.{ℕ, _<_, _≤_}
-use mathlib.Core.Path.{_≡_, refl, sym, ap, _∙_, subst}
-use mathlib.Core.Bool.{Bool, true, false}
-use mathlib.Core.List.{List, [], _++_, append-nil}
+use Prim.Native.Nat.{ℕ}
+use mathlib.Core.Path.{_≡_, sym, ap, _∙_, subst}
+use mathlib.Core.Bool.{Bool}
+use mathlib.Core.List.{List, _++_, append-nil}
 use native.Mathlib.Omega.{arith}
 use borrow.Author.Needs.{needs}
 use lib.Dec.{ltb, eqb}
-use lib.ListN.{length, take, drop}
+use lib.ListN.{length, drop}
 use lib.Seq.{length-take-le}
 use Rattle.base.specs.Decides.{Decides}
 use Rattle.base.specs.Join.{joined}
@@ -19,7 +19,7 @@ use Rattle.uk.specs.Cardinal.{cardinalWords}
 use Rattle.read_uk.specs.Reading.{sums, signed, unsigned}
 use Rattle.read_uk.proofs.Known.{lawful}
 use Rattle.read_uk.proofs.Falls.{sums-length}
-use Rattle.read_uk.proofs.Below.{zeros, zeros-groups}
+use Rattle.read_uk.proofs.Below.{zeros-groups}
 use Rattle.read_uk.proofs.Compared.{read, sign-is, words-stand}
 use Rattle.read_uk.proofs.read_cardinal.Statement.{statement}
 use Rattle.read_uk.proofs.read_cardinal.Tie as tie
