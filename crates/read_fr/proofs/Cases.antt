@@ -1,14 +1,13 @@
 -- The guess, as the code's tests and steps have it.
 -- Assumes nothing.
-use Prim.Native.Nat.{ℕ, zero, suc, _+_, _-_, _*_, _%_, _<_, _≤_}
+use Prim.Native.Nat.{ℕ, _+_, _-_, _*_, _%_, _<_, _≤_}
 use mathlib.Core.Path.{_≡_, refl, sym, ap, _∙_}
-use mathlib.Core.Bool.{Bool, true, false}
-use mathlib.Core.List.{List, [], _∷_, _++_, append-nil, append-assoc}
+use mathlib.Core.Bool.{Bool, true, false, cond, _&&_}
+use mathlib.Core.List.{List, [], _∷_}
 use native.Mathlib.Omega.{arith}
-use native.Mathlib.Numerals.{add-one}
 use borrow.Author.Tests.{eq-eqb, ne-eqb, lt-ltb, le-ltb, ltb-true, ltb-false}
-use lib.Dec.{ltb}
-use lib.ListN.{length, take, drop, set, length-drop, drop-of-length-le}
+use lib.Dec.{eqb, ltb}
+use lib.ListN.{length, take, drop, length-drop}
 use Rattle.base.specs.Decides.{Decides}
 use Rattle.tokens.specs.Tokens.{firstWord, afterWord, split}
 use Rattle.tokens.proofs.Words.{split-first}
@@ -18,9 +17,8 @@ use Rattle.walker.proofs.Steps.{goes-on, goes-within, goes-far}
 use Rattle.meanings_fr.specs.Meanings.{meaningOf}
 use Rattle.phrase.specs.Phrase.{phrase}
 use Rattle.phrase.specs.Plan.{pieces, says}
-use Rattle.read_fr.specs.Reading.{meant, meanings, grow, times, one, Group, guess, seems, reads, isMinus, unsigned, guessed}
+use Rattle.read_fr.specs.Reading.{meant, meanings, grow, times, one, guess, seems, isMinus, unsigned}
 use Rattle.read_fr.proofs.Seeming.{seems-scale}
-use Rattle.read_fr.proofs.Guesses.{reads-here, reads-over}
 
 -- one more word
 module _ (c m : ℕ) where
@@ -53,6 +51,14 @@ module _ (h c m : ℕ) (ms : List ℕ) where
   pub adds-small : m ≤ 100 → (m ≡ 100 → ⊥) → seems h c (m ∷ ms) ≡ seems h (grow c m) ms
   unfolding seems
   adds-small l n = rw (le-ltb 100 m l, ne-eqb m 100 n) refl
+
+-- the end of a text, as a word that means 0
+ends : (h c : ℕ) → c < 100 → seems h c (0 ∷ []) ≡ seems h c []
+ends h c l = adds-small h c 0 [] (omega arith) (λ q. omega (arith, q)) ∙ ap (λ (x : ℕ). seems h x []) (go (eqb c 4))
+  where
+    go : (t : Bool) → cond (t && false) 80 ((c + 0) % 100) ≡ c
+    go true = omega arith
+    go false = omega arith
 
 -- the first word of a text, and of the part of it from a place on
 pub first-means : (s : List ℕ) → 0 < length s → meanings s ≡ meant (firstWord s) ∷ meanings (afterWord s)
@@ -98,19 +104,34 @@ module _ (s : List ℕ) (w : Found) (e : w ≡ found s 0) (m : w .more ≡ true)
   pub first-within : w .next ≤ length s
   first-within = let h = on-within s 0 w e m in omega arith
 
+-- a number below a hundred: one more word of it, the word that ends it, and the end of the text
+module _ (s : List ℕ) (from c at : ℕ) (inv : (h : ℕ) → seems h 0 (meanings (drop from s)) ≡ seems h c (meanings (drop at s))) where
+  module _ (m next : ℕ) (e : meanings (drop at s) ≡ m ∷ meanings (drop next s)) where
+    pub low-more : m < 100 → (h : ℕ) → seems h 0 (meanings (drop from s)) ≡ seems h (grow c m) (meanings (drop next s))
+    low-more l h = inv h ∙ ap (seems h c) e ∙ adds-small h c m (meanings (drop next s)) (omega arith) (λ q. omega (arith, q))
+
+    pub low-word : (h : ℕ) → seems h 0 (meanings (drop from s)) ≡ seems h c (m ∷ meanings (drop next s))
+    low-word h = inv h ∙ ap (seems h c) e
+
+  pub low-end : c < 100 → length s ≤ at → (h : ℕ) → seems h 0 (meanings (drop from s)) ≡ seems h c (0 ∷ meanings (drop at s))
+  low-end l n h = inv h ∙ rw (past-end s at n) (sym (ends h c l))
+
 -- a group ends at a scale word, or with the text
-module _ (s : List ℕ) (h c at : ℕ) (inv : seems 0 0 (meanings s) ≡ seems h c (meanings (drop at s))) where
-  pub group-scale : (m at′ : ℕ) → meanings (drop at s) ≡ m ∷ meanings (drop at′ s) → 100 < m
-      → seems 0 0 (meanings s) ≡ guess (one (100 * h + c)) (m - 1000) (meanings (drop at′ s))
-  group-scale m at′ e l = inv ∙ ap (seems h c) e ∙ seems-scale h c m (meanings (drop at′ s)) l
+module _ (s : List ℕ) (h at : ℕ) (inv : seems 0 0 (meanings s) ≡ seems h 0 (meanings (drop at s))) where
+  module _ (c m next : ℕ) (part : (h : ℕ) → seems h 0 (meanings (drop at s)) ≡ seems h c (m ∷ meanings (drop next s))) where
+    pub group-scale : 100 < m → seems 0 0 (meanings s) ≡ guess (one (100 * h + c)) (m - 1000) (meanings (drop next s))
+    group-scale l = inv ∙ part h ∙ seems-scale h c m (meanings (drop next s)) l
 
-  pub group-more : (m at′ h′ c′ : ℕ) → meanings (drop at s) ≡ m ∷ meanings (drop at′ s) → ((ms : List ℕ) → seems h c (m ∷ ms) ≡ seems h′ c′ ms)
-      → seems 0 0 (meanings s) ≡ seems h′ c′ (meanings (drop at′ s))
-  group-more m at′ h′ c′ e f = inv ∙ ap (seems h c) e ∙ f (meanings (drop at′ s))
+    pub group-cent : m ≡ 100 → seems 0 0 (meanings s) ≡ seems (times c) 0 (meanings (drop next s))
+    group-cent e = inv ∙ part h ∙ adds-cent h c m (meanings (drop next s)) e
 
-  pub group-end : meanings (drop at s) ≡ [] → seems 0 0 (meanings s) ≡ guess (100 * h + c) 0 (meanings (drop at s))
+    pub group-low : c < 100 → m ≡ 0 → length s ≤ next → seems 0 0 (meanings s) ≡ guess (100 * h + c) 0 (meanings (drop next s))
+    unfolding seems
+    group-low l e n = inv ∙ part h ∙ rw (e, past-end s next n) (ends h c l)
+
+  pub group-end : length s ≤ at → seems 0 0 (meanings s) ≡ guess (100 * h) 0 (meanings (drop at s))
   unfolding seems
-  group-end n = inv ∙ rw n refl
+  group-end n = let z : 100 * h + 0 ≡ 100 * h = omega arith in inv ∙ rw (past-end s at n, z) refl
 
 -- the sign
 pub sign-none : (s : List ℕ) → meanings s ≡ [] → (ltb 0 0 ≡ isMinus (meanings s)) × (meanings (drop 0 s) ≡ unsigned (meanings s)) × (0 ≤ length s)
@@ -133,32 +154,3 @@ module _ (s : List ℕ) (m n : ℕ) (e : meanings s ≡ m ∷ meanings (drop n s
 pub plan-stands : (b : Bool) (plan p s : List ℕ) (n : ℕ) → Decides b (phrase (pieces (take n plan)) ≡ s) → phrase (says plan n) ≡ p → Decides b (p ≡ s)
 unfolding says
 plan-stands b plan p s n d e = rw e at d
-
--- the groups, order by order
-pub read-end : (n : ℕ) (g : Group) (xs : List ℕ) → n ≡ 0 → xs ≡ reads n g ++ drop n xs
-unfolding reads
-read-end n g xs e = rw e refl
-
-drop-stored : (xs : List ℕ) (k v : ℕ) → k < length xs → drop k (set xs k v) ≡ v ∷ drop (suc k) xs
-drop-stored [] k v h = absurd (omega arith)
-drop-stored (x ∷ xs) zero v h = refl
-drop-stored (x ∷ xs) (suc k) v h = drop-stored xs k v (omega arith)
-
-module _ (k v o : ℕ) (ms xs : List ℕ) (h : k < length xs) where
-  above : (gs : List ℕ) (x : ℕ) → (gs ++ (x ∷ [])) ++ drop (k + 1) xs ≡ gs ++ drop k (set xs k x)
-  above gs x = append-assoc gs (x ∷ []) (drop (k + 1) xs) ∙ rw (add-one k, drop-stored xs k x h) refl
-
-  pub read-here : o ≡ k → (g : Group) → seems 0 0 ms ≡ g → reads (k + 1) (guess v o ms) ++ drop (k + 1) xs ≡ reads k g ++ drop k (set xs k v)
-  read-here e g f =
-      let q : reads (k + 1) (guess v o ms) ≡ reads k g ++ (v ∷ []) = rw (add-one k, e) (reads-here k v ms ∙ ap (λ (x : Group). reads k x ++ (v ∷ [])) f) in
-      ap (λ (l : List ℕ). l ++ drop (k + 1) xs) q ∙ above (reads k g) v
-
-  pub read-over : (o ≡ k → ⊥) → reads (k + 1) (guess v o ms) ++ drop (k + 1) xs ≡ reads k (guess v o ms) ++ drop k (set xs k 0)
-  read-over e =
-      let q : reads (k + 1) (guess v o ms) ≡ reads k (guess v o ms) ++ (0 ∷ []) = rw (add-one k) (reads-over k (guess v o ms) e) in
-      ap (λ (l : List ℕ). l ++ drop (k + 1) xs) q ∙ above (reads k (guess v o ms)) 0
-
--- all groups
-pub read-all : (g : Group) (ms xs ys : List ℕ) → length xs ≡ 34 → seems 0 0 ms ≡ g → ys ≡ reads 34 g ++ drop 34 xs → ys ≡ guessed ms
-unfolding guessed
-read-all g ms xs ys l e r = r ∙ rw (drop-of-length-le xs {i = 34} (omega (arith, l)), append-nil (reads 34 g), e) refl

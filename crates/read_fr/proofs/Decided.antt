@@ -19,7 +19,7 @@ use Rattle.fr.proofs.Sentences.{says, said, says-nth, said-nth}
 use Rattle.spell_fr.specs.Top.{Groups34}
 use Rattle.read_fr.specs.Reading.{meanings, isMinus, unsigned, guessed}
 use Rattle.read_fr.proofs.Guesses.{guess-cardinal, guess-ordinal}
-use Rattle.read_fr.proofs.Groups.{guessed-groups}
+use Rattle.read_fr.proofs.Bounds.{guessed-groups}
 
 -- 34 groups are those of their number
 module _ (gs : List ℕ) (g : Groups34 gs) where

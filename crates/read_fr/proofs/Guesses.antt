@@ -1,15 +1,14 @@
 -- The guess of a spelled phrase is its number: the law on which all of reading rests.
 -- Assumes nothing.
-use Prim.Native.Nat.{ℕ, zero, suc, _/_, _%_, _^_, _<_, _≤_}
+use Prim.Native.Nat.{ℕ, zero, suc, _+_, _/_, _%_, _^_, _<_, _≤_}
 use mathlib.Core.Path.{_≡_, refl, sym, ap, _∙_}
 use mathlib.Core.Bool.{Bool, true, false, cond}
 use mathlib.Core.List.{List, [], _∷_, _++_, append-nil}
 use native.Mathlib.Nat.{mod-lt}
-use native.Mathlib.Numerals.{add-one}
 use native.Mathlib.Omega.{arith}
-use borrow.Author.Tests.{eq-eqb, ne-eqb, eqb-true, ltb-true, ltb-false}
+use borrow.Author.Tests.{eqb-true, ltb-true, ltb-false}
 use lib.Dec.{eqb, ltb}
-use lib.ListN.{length, getD, take, replicate, replicate-append-replicate, List·getD-eq-default}
+use lib.ListN.{length, getD, take, List·getD-eq-default}
 use lib.Seq.{take-suc, take-all}
 use Rattle.figures.specs.Groups.{groupsOf}
 use Rattle.figures.proofs.Laws.Groups.{groups-length, groups-at, groups-below, total-groups}
@@ -21,9 +20,10 @@ use Rattle.fr.specs.Cardinal.{groupOf, groupsBelow, cardinalWords, cardinalPhra
 use Rattle.fr.specs.Ordinal.{nth, ordinalPhrase}
 use Rattle.fr.specs.declared.French.{French}
 use Rattle.spell_fr.proofs.Tops.{spoken}
-use Rattle.read_fr.specs.Reading.{meanings, Group, guess, seems, reads, isMinus, unsigned, guessed}
+use Rattle.read_fr.specs.Reading.{meanings, guess, seems, reads, isMinus, unsigned, guessed}
 use Rattle.read_fr.proofs.Splits.{sense, sense-append, Closed, Sounds, sounds-append, sounds-closed, meanings-joined, meanings-nth}
 use Rattle.read_fr.proofs.Known.{zero-known, moins-means, premier-means}
+use Rattle.read_fr.proofs.Below.{zeros, reads-here, reads-over, one-below}
 use Rattle.read_fr.proofs.Seeming.{group-sounds, lowest-seems, group-seems}
 
 joiner-gap : (F : French) → isGap (joiner F) ≡ true
@@ -33,33 +33,19 @@ joiner-gap F = go (isReformed F)
     go true = refl
     go false = refl
 
--- the same group again, and a group of another order
-pub reads-here : (k v : ℕ) (ms : List ℕ) → reads (suc k) (guess v k ms) ≡ reads k (seems 0 0 ms) ++ (v ∷ [])
-unfolding reads
-reads-here k v ms = rw (eq-eqb k k refl) refl
-
-pub reads-over : (k : ℕ) (g : Group) → (g .order ≡ k → ⊥) → reads (suc k) g ≡ reads k g ++ (0 ∷ [])
-unfolding reads
-reads-over k g n = rw (ne-eqb (g .order) k n) refl
-
 -- a lowest group alone
-zeros : (k : ℕ) → groupsOf k 0 ≡ replicate k 0
+none : (k : ℕ) → groupsOf k 0 ≡ zeros k
 unfolding groupsOf
-zeros zero = refl
-zeros (suc k) = ap (λ (l : List ℕ). 0 ∷ l) (zeros k)
+none zero = refl
+none (suc k) = ap (λ (l : List ℕ). 0 ∷ l) (none k)
 
 lone : (k v : ℕ) → v < 1000 → reads (suc k) (guess v 0 []) ≡ groupsOf (suc k) v
 unfolding reads groupsOf
 lone k v h =
     let m : v % 1000 ≡ v = omega arith in
     let d : v / 1000 ≡ 0 = omega arith in
-    go k ∙ ap (λ (l : List ℕ). v ∷ l) (sym (zeros k)) ∙ rw (m, d) refl
-  where
-    go : (k : ℕ) → reads (suc k) (guess v 0 []) ≡ v ∷ replicate k 0
-    go zero = refl
-    go (suc k) =
-        reads-over (suc k) (guess v 0 []) (λ q. omega (arith, q)) ∙ ap (λ (l : List ℕ). l ++ (0 ∷ [])) (go k)
-        ∙ ap (λ (l : List ℕ). v ∷ l) (replicate-append-replicate k 1 0 ∙ ap (λ (i : ℕ). replicate i 0) (add-one k))
+    let z : 0 + k ≡ k = omega arith in
+    (rw z at (one-below v 0 k [])) ∙ ap (λ (l : List ℕ). v ∷ l) (sym (none k)) ∙ rw (m, d) refl
 
 not-minus : (ms : List ℕ) → seems 0 0 ms .order < 34 → isMinus ms ≡ false
 unfolding seems

@@ -1,8 +1,9 @@
 pub mod Splits
 pub mod Known
 pub mod Seeming
+pub mod Below
 pub mod Guesses
-pub mod Groups
+pub mod Bounds
 pub mod Decided
 pub mod Cases
 pub mod Promises

@@ -18,7 +18,7 @@ use Rattle.fr.specs.declared.French.{French}
 use Rattle.spell_fr.specs.Top.{Groups34}
 use Rattle.read_fr.specs.Reading.{meanings, isMinus, unsigned, guessed}
 use Rattle.read_fr.specs.Promise.{ReadNth}
-use Rattle.read_fr.proofs.Groups.{guessed-groups}
+use Rattle.read_fr.proofs.Bounds.{guessed-groups}
 use Rattle.read_fr.proofs.Decided.{says-once, stands-says, fails-says, nth-once, stands-nth, fails-nth}
 
 pub are-groups : (gs ms : List ℕ) → gs ≡ guessed ms → Groups34 gs

@@ -3,10 +3,10 @@
 use figures::Seen;
 use fr::French;
 ghost use mathlib.Core.Path.{_≡_};
-ghost use mathlib.Core.List.{List, _∷_, _++_};
+ghost use mathlib.Core.List.{_∷_, _++_};
 ghost use Prim.Native.Nat.{ℕ, _+_, _-_, _%_, _≤_, _<_};
 ghost use lib.Dec.{eqb, ltb};
-ghost use lib.ListN.{length, drop};
+ghost use lib.ListN.{length, drop, replicate};
 ghost use Rattle.base.specs.Decides.{Decides};
 ghost use Rattle.figures.specs.Groups.{total};
 ghost use Rattle.figures.specs.Seen.{ReadOf};
@@ -18,10 +18,11 @@ ghost use Rattle.spell_fr.specs.Top.{Groups34};
 ghost use Rattle.read_fr.specs.Reading.{meanings, grow as growOf, times as timesOf, one as oneOf, guess as guessOf, seems, reads, isMinus, unsigned, guessed};
 ghost use Rattle.read_fr.specs.Promise.{ReadNth};
 
-// A number below a thousand in the making: its hundreds, and what is below them.
-pub struct Count {
-    pub h: u16,
+// A number below a hundred, what the word that ends it means, and where the next word starts.
+pub struct Part {
     pub c: u16,
+    pub m: u16,
+    pub next: usize,
 }
 
 // A group's value and order, and where the next group starts.
@@ -75,92 +76,80 @@ fn order_of(m: u16) -> usize
     if m < 1000 { 0 } else { (m - 1000) as usize }
 }
 
-// One more word of a group, other than a scale word.
-fn add(h: u16, c: u16, m: u16) -> Count
-    requires { ⌜ (h < 10) × (c < 100) × (m ≤ 100) ⌝ }
-    ensures { λ r. ⌜ (r .h < 10) × (r .c < 100) × ((ms : List ℕ) → seems h c (m ∷ ms) ≡ seems (r .h) (r .c) ms) ⌝ }
+// The number below a hundred from a place on: its words, up to one that means a hundred or more, or the end, which means 0.
+fn low(s: &[u8], from: usize) -> Part
+    requires { ⌜ from < length (now s) ⌝ }
+    ensures { λ r. ⌜ ((h : ℕ) → seems h 0 (meanings (drop from (now (s .entry)))) ≡ seems h (r .c) (r .m ∷ meanings (drop (r .next) (now (s .entry))))) ⌝ }
+    ensures { λ r. ⌜ (r .c < 100) × (from < r .next) × (r .next ≤ length (now (s .entry))) × (r .m < 100 → (r .m ≡ 0) × (length (now (s .entry)) ≤ r .next)) ⌝ }
 {
-    if m == 100 {
-        Count { h: times(c), c: 0 }
-    } else {
-        Count { h, c: grow(c, m) }
+    let mut c: u16 = 0;
+    let mut at = from;
+    while at < s.len() {
+        let w = walker::word(s, at);
+        let m = meanings_fr::meaning(w.key);
+        at += w.next;
+        if 99 < m {
+            return Part { c, m, next: at };
+        }
+        c = grow(c, m);
     }
+    Part { c, m: 0, next: at }
 }
 
 // The group at the front: its words, up to a scale word or the end.
 fn group(s: &[u8]) -> Seem
     ensures { λ r. ⌜ seems 0 0 (meanings (now (s .entry))) ≡ guessOf (r .value) (r .order) (meanings (drop (r .next) (now (s .entry)))) ⌝ }
-    ensures { λ r. ⌜ (r .value < 1000) × (r .next ≤ length (now (s .entry))) ⌝ }
+    ensures { λ r. ⌜ r .next ≤ length (now (s .entry)) ⌝ }
 {
     let mut h: u16 = 0;
-    let mut c: u16 = 0;
     let mut at: usize = 0;
     while at < s.len() {
-        let w = walker::word(s, at);
-        let m = meanings_fr::meaning(w.key);
-        at += w.next;
-        if 100 < m {
+        let t = low(s, at);
+        at = t.next;
+        if 100 < t.m {
             return Seem {
-                value: one(100 * h + c),
-                order: order_of(m),
+                value: one(100 * h + t.c),
+                order: order_of(t.m),
                 next: at,
             };
         }
-        let k = add(h, c, m);
-        h = k.h;
-        c = k.c;
+        if t.m < 100 {
+            return Seem {
+                value: 100 * h + t.c,
+                order: 0,
+                next: at,
+            };
+        }
+        h = times(t.c);
     }
     Seem {
-        value: 100 * h + c,
+        value: 100 * h,
         order: 0,
         next: at,
     }
 }
 
-// The group of order k, where the one at the front has this value and order, and s is behind it: what is at the front then.
-fn read_order(k: usize, value: u16, order: usize, s: &[u8], out: &mut [u16]) -> Seem
-    requires { ⌜ (k < length (now out)) × (value < 1000) ⌝ }
-    ensures { λ r. ⌜ reads (k + 1) (guessOf value order (meanings (now (s .entry)))) ++ drop (k + 1) (now (out .entry)) ≡ reads k (guessOf (r .value) (r .order) (meanings (drop (r .next) (now (s .entry))))) ++ drop k (now (out .exit)) ⌝ }
-    ensures { λ r. ⌜ (r .value < 1000) × (r .next ≤ length (now (s .entry))) ⌝ }
+// The groups of the orders below k, from the highest down; each call has the order of the group that it follows, which is lower, and the part of
+// the text behind it. The orders that are not there stay 0.
+fn groups(k: usize, s: &[u8], out: &mut [u16; 34])
+    requires { ⌜ (k ≤ 34) × (now out ≡ replicate k 0 ++ drop k (now out)) ⌝ }
+    ensures { λ _. ⌜ now (out .exit) ≡ reads k (seems 0 0 (meanings (now (s .entry)))) ++ drop k (now (out .entry)) ⌝ }
 {
-    if order == k {
-        out[k] = value;
-        return group(s);
-    }
-    out[k] = 0;
-    Seem {
-        value,
-        order,
-        next: 0,
-    }
-}
-
-// The groups below order n, from the highest down; each turn hands on the part of s behind the groups that it has read.
-fn read(n: usize, value: u16, order: usize, s: &[u8], out: &mut [u16])
-    requires { ⌜ (n ≤ 34) × (n ≤ length (now out)) × (value < 1000) ⌝ }
-    ensures { λ _. ⌜ now (out .exit) ≡ reads n (guessOf value order (meanings (now (s .entry)))) ++ drop n (now (out .entry)) ⌝ }
-{
-    let mut front = value;
-    let mut of = order;
-    let mut at: usize = 0;
-    let mut left = n;
-    while 0 < left {
-        left = left - 1;
-        let g = read_order(left, front, of, &s[at..], out);
-        front = g.value;
-        of = g.order;
-        at = at + g.next;
+    let g = group(s);
+    let order = g.order;
+    if order < k {
+        out[order] = g.value;
+        let at = g.next;
+        groups(order, &s[at..], out);
     }
 }
 
 // All groups.
-fn guess(s: &[u8], out: &mut [u16])
-    requires { ⌜ length (now out) ≡ 34 ⌝ }
+fn guess(s: &[u8], out: &mut [u16; 34])
     ensures { λ _. ⌜ now (out .exit) ≡ guessed (meanings (now (s .entry))) ⌝ }
 {
-    let g = group(s);
-    let at = g.next;
-    read(34, g.value, g.order, &s[at..], out);
+    *out = [0u16; 34];
+    groups(34, s, out);
 }
 
 // How many bytes the minus word and the gap behind it have at the front; 0 where it does not stand there.

@@ -5,7 +5,7 @@ use mathlib.Core.Path.{_≡_, refl, sym, ap, _∙_}
 use mathlib.Core.List.{List, [], _∷_, _++_, append-nil, append-assoc, map-append}
 use native.Mathlib.Omega.{arith}
 use native.Mathlib.Numerals.{add-one}
-use lib.ListN.{length, take, set}
+use lib.ListN.{length, take, set, length-set}
 use lib.Seq.{take-suc-set}
 use Rattle.base.specs.Join.{Word}
 use Rattle.words.specs.Text.{text}
@@ -18,7 +18,7 @@ use Rattle.spell_fr.specs.Told.{Pushed, AllKnown, Opens, Told}
 
 -- a number stored at the end of what is written
 pub pushed : (xs : List ℕ) (n s id : ℕ) → n < length xs → Pushed xs n (set xs n (id * 256 + s)) (n + 1) s id
-pushed xs n s id h = record { next = refl; more = rw (add-one n, take-suc-set xs n (id * 256 + s)) refl }
+pushed xs n s id h = record { next = refl; same = length-set xs n (id * 256 + s); more = rw (add-one n, take-suc-set xs n (id * 256 + s)) refl }
 
 pub pieces-append : (cs ds : List ℕ) → following (pieces (cs ++ ds)) ≡ following (pieces cs) ++ following (pieces ds)
 unfolding pieces
@@ -45,7 +45,7 @@ gap-some (suc s) w h = refl
 -- nothing is told
 pub quiet : (k : ℕ) (xs : List ℕ) (n : ℕ) → Told k xs n xs n []
 unfolding following pieces
-quiet k xs n = record { codes = []; near = omega arith; more = sym (append-nil (take n xs)); known = tt; opens = tt; speaks = refl }
+quiet k xs n = record { codes = []; near = omega arith; same = refl; more = sym (append-nil (take n xs)); known = tt; opens = tt; speaks = refl }
 
 known-append : (cs ds : List ℕ) → AllKnown cs → AllKnown ds → AllKnown (cs ++ ds)
 known-append [] ds k l = l
@@ -60,6 +60,7 @@ pub tell : {j k n m r : ℕ} {xs ys zs a b : List ℕ} (i : ℕ) → Told j xs n
 tell {n = n} {xs = xs} i p q h = record {
   codes = p .codes ++ q .codes;
   near = omega (arith, p .near, q .near);
+  same = q .same ∙ p .same;
   more = q .more ∙ ap (λ (l : List ℕ). l ++ q .codes) (p .more) ∙ append-assoc (take n xs) (p .codes) (q .codes);
   known = known-append (p .codes) (q .codes) (p .known) (q .known);
   opens = opens-append (p .codes) (q .codes) (p .opens) (q .opens);
@@ -68,13 +69,14 @@ tell {n = n} {xs = xs} i p q h = record {
 
 -- the same bytes, in more room
 pub retell : {k n r : ℕ} {xs ys a b : List ℕ} (i : ℕ) → Told k xs n ys r a → k ≤ i → a ≡ b → Told i xs n ys r b
-retell i p h e = record { codes = p .codes; near = omega (arith, p .near); more = p .more; known = p .known; opens = p .opens; speaks = p .speaks ∙ e }
+retell i p h e = record { codes = p .codes; near = omega (arith, p .near); same = p .same; more = p .more; known = p .known; opens = p .opens; speaks = p .speaks ∙ e }
 
 -- a word behind a separator
 pub told-word : {n r s id : ℕ} {xs ys w : List ℕ} → Pushed xs n ys r s id → s < 256 → 0 < s → Numbered id w → Told 1 xs n ys r (s ∷ w)
 told-word {s = s} {id = id} {w = w} p h z d = record {
   codes = (id * 256 + s) ∷ [];
   near = omega (arith, p .next);
+  same = p .same;
   more = p .more;
   known = (code-known s id h (d .known), tt);
   opens = code-opens s id h z;

@@ -1,2 +1,3 @@
 pub mod Told
 pub mod Top
+pub mod Settings

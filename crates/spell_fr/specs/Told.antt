@@ -4,7 +4,7 @@
 use Prim.Native.Nat.{ℕ, _+_, _*_, _/_, _%_, _≤_}
 use mathlib.Core.Path.{_≡_}
 use mathlib.Core.List.{List, [], _∷_, _++_}
-use lib.ListN.{take}
+use lib.ListN.{length, take}
 use Rattle.phrase.specs.Phrase.{following}
 use Rattle.phrase.specs.Plan.{pieces}
 use Rattle.fr.specs.Numbered.{Known}
@@ -12,6 +12,7 @@ use Rattle.fr.specs.Numbered.{Known}
 -- one number more: the plan xs of which n are written has become ys with r written, the last of them this word behind this separator
 pub record Pushed (xs : List ℕ) (n : ℕ) (ys : List ℕ) (r separator id : ℕ) : Type 0 where
   pub next : r ≡ n + 1
+  pub same : length ys ≡ length xs
   pub more : take r ys ≡ take n xs ++ ((id * 256 + separator) ∷ [])
 
 -- every number is a French word's
@@ -28,6 +29,7 @@ Opens (c ∷ cs) = c % 256 ≡ 0 → ⊥
 pub record Told (k : ℕ) (xs : List ℕ) (n : ℕ) (ys : List ℕ) (r : ℕ) (b : List ℕ) : Type 0 where
   pub codes : List ℕ
   pub near : r ≤ n + k
+  pub same : length ys ≡ length xs
   pub more : take r ys ≡ take n xs ++ codes
   pub known : AllKnown codes
   pub opens : Opens codes

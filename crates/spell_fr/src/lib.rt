@@ -15,6 +15,7 @@ ghost use Rattle.fr.specs.Rules.{isMille, joiner, spacedBy, hundredWords, link,
 ghost use Rattle.fr.specs.Cardinal.{groupOf, groupsBelow, cardinalWords, cardinalPhrase};
 ghost use Rattle.fr.specs.Ordinal.{ordinalPhrase};
 ghost use Rattle.spell_fr.specs.Told.{Pushed, Told};
+ghost use Rattle.spell_fr.specs.Settings.{french};
 ghost use Rattle.spell_fr.specs.Top.{Groups34, Topped};
 
 // The separators: a hyphen, and none.
@@ -164,20 +165,32 @@ fn group(f: French, j: u8, order: usize, g: u16, plan: &mut [u32], at: usize) ->
     scale_words(j, order, n, plan, b)
 }
 
-// The groups below order n, from the highest down.
-fn groups(f: French, n: usize, gs: &[u16; 34], plan: &mut [u32], at: usize) -> usize
-    requires { ⌜ (f .region < 3) × (n ≤ 34) × (at + 5 * n ≤ length (now plan)) ⌝ }
-    ensures { λ r. ⌜ Told (5 * n) (now (plan .entry)) at (now (plan .exit)) r (spacedBy (joiner f) (groupsBelow f n (now (gs .entry)))) ⌝ }
+// The groups below order n, from the highest down: each call has one order fewer. The settings go as numbers and the plan as an array, and nothing
+// is left to do behind the call, so that the compiler makes a loop of it.
+fn groups(
+    feminine: u32,
+    reformed: u32,
+    region: u32,
+    j: u8,
+    n: usize,
+    gs: &[u16; 34],
+    plan: &mut [u32; 308],
+    at: usize,
+) -> usize
+    requires { ⌜ (j ≡ joiner (french feminine reformed region)) × (region < 3) × (n ≤ 34) × (at + 5 * n ≤ length (now plan)) ⌝ }
+    ensures { λ r. ⌜ Told (5 * n) (now (plan .entry)) at (now (plan .exit)) r (spacedBy (joiner (french feminine reformed region)) (groupsBelow (french feminine reformed region) n (now (gs .entry)))) ⌝ }
 {
-    let j = fr::joiner(f);
-    let mut k = at;
-    let mut left = n;
-    while 0 < left {
-        let order = left - 1;
-        k = group(f, j, order, gs[order], plan, k);
-        left = order;
+    if n == 0 {
+        return at;
     }
-    k
+    let order = n - 1;
+    let f = French {
+        feminine,
+        reformed,
+        region,
+    };
+    let k = group(f, j, order, gs[order], plan, at);
+    groups(feminine, reformed, region, j, order, gs, plan, k)
 }
 
 // The orders up to the highest group that is not 0.
@@ -221,19 +234,20 @@ fn plan_words(
     negative: bool,
     high: usize,
     gs: &[u16; 34],
-    plan: &mut [u32],
+    plan: &mut [u32; 308],
 ) -> usize
     requires { ⌜ (f .region < 3) × Topped (now gs) 34 high × (307 ≤ length (now plan)) ⌝ }
     ensures { λ r. ⌜ Told 307 (now (plan .entry)) 0 (now (plan .exit)) r (spacedBy (joiner f) (cardinalWords f zero negative (now (gs .entry)))) ⌝ }
 {
+    let j = fr::joiner(f);
     if zero {
-        return say(plan, 0, fr::joiner(f), ZERO);
+        return say(plan, 0, j, ZERO);
     }
     if negative {
-        let at = say(plan, 0, fr::joiner(f), MOINS);
-        return groups(f, high, gs, plan, at);
+        let at = say(plan, 0, j, MOINS);
+        return groups(f.feminine, f.reformed, f.region, j, high, gs, plan, at);
     }
-    groups(f, high, gs, plan, 0)
+    groups(f.feminine, f.reformed, f.region, j, high, gs, plan, 0)
 }
 
 // The plan of a cardinal's phrase.
@@ -242,18 +256,18 @@ pub fn plan_cardinal(
     zero: bool,
     negative: bool,
     gs: &[u16; 34],
-    plan: &mut [u32],
+    plan: &mut [u32; 308],
 ) -> usize
     requires { ⌜ (f .region < 3) × (308 ≤ length (now plan)) ⌝ }
-    ensures { λ r. ⌜ (r ≤ 308) × (phraseOf (says (now (plan .exit)) r) ≡ cardinalPhrase f zero negative (now (gs .entry))) ⌝ }
+    ensures { λ r. ⌜ (r ≤ 308) × (phraseOf (says (now (plan .exit)) r) ≡ cardinalPhrase f zero negative (now (gs .entry))) × (length (now (plan .exit)) ≡ length (now (plan .entry))) ⌝ }
 {
     plan_words(f, zero, negative, top(34, gs), gs, plan)
 }
 
 // The plan of an ordinal's phrase: the cardinal's, with the last word's stem and the ending.
-pub fn plan_ordinal(f: French, gs: &[u16; 34], plan: &mut [u32]) -> usize
+pub fn plan_ordinal(f: French, gs: &[u16; 34], plan: &mut [u32; 308]) -> usize
     requires { ⌜ (f .region < 3) × Groups34 (now gs) × (308 ≤ length (now plan)) ⌝ }
-    ensures { λ r. ⌜ (r ≤ 308) × (phraseOf (says (now (plan .exit)) r) ≡ ordinalPhrase f (eqb (total (now (gs .entry))) 0) (eqb (total (now (gs .entry))) 1) (now (gs .entry))) ⌝ }
+    ensures { λ r. ⌜ (r ≤ 308) × (phraseOf (says (now (plan .exit)) r) ≡ ordinalPhrase f (eqb (total (now (gs .entry))) 0) (eqb (total (now (gs .entry))) 1) (now (gs .entry))) × (length (now (plan .exit)) ≡ length (now (plan .entry))) ⌝ }
 {
     let high = top(34, gs);
     if is_below(high, gs, 1) {

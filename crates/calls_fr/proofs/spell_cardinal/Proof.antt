@@ -2,7 +2,7 @@
 -- Assumes nothing.
 use borrow.Author.Needs.{needs}
 use native.Mathlib.Omega.{arith}
-use mathlib.Core.Path.{_≡_}
+use mathlib.Core.Path.{_≡_, sym}
 use Rattle.figures.specs.Text.{unsigned}
 use Rattle.figures.proofs.Laws.Plain.{plain-digits}
 use Rattle.figures.proofs.Laws.Sign.{formed-unsigned}
@@ -20,7 +20,7 @@ phrase-is c =
 
 returns : tie.Need-returns
 returns c =
-    (heard _ _ _ (phrase-is (c .before .before .before .before .before .before)) (c .before .before .speak .ensures .0), omega (arith, c .before .before .speak .ensures .1, c .before .before .before .before .before .before .plan-cardinal .ensures .0))
+    (heard _ _ _ (phrase-is (c .before .before .before .before .before)) (c .before .before .speak .ensures .0), omega (arith, c .before .before .speak .ensures .1, c .before .before .before .before .before .plan-cardinal .ensures .0))
 
 pub spell-cardinal-spec : {M : Type 1} → statement M
 spell-cardinal-spec =
@@ -30,9 +30,8 @@ spell-cardinal-spec =
     (λ c κs. search needs)
     (λ c κs. search needs)
     (λ c κs. rw (c .after-sign .ensures) (plain-digits (unsigned (c .before .before .before .before .before .args .text .now)) (formed-unsigned (c .before .before .before .before .before .args .text .now) (c .before .before .before .before .before .pre .1))))
-    (λ c. search needs)
     (λ c κs. search needs)
-    (λ c. search needs)
-    (λ c κs. let p = c .before .before .before .plan-cardinal in (omega (arith, p .ensures .0, p .kept .1 .1 .1 .1 .0), omega (arith, p .ensures .0)))
+    (λ c. sym (c .before .plan-cardinal .ensures .2))
+    (λ c κs. let p = c .before .before .plan-cardinal in (omega (arith, p .ensures .0, p .ensures .2), omega (arith, p .ensures .0)))
     (λ c. search needs)
     returns)

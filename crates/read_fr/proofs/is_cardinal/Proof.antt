@@ -10,16 +10,15 @@ use Rattle.read_fr.proofs.Cases.{plan-stands}
 use Rattle.read_fr.proofs.is_cardinal.Statement.{statement}
 use Rattle.read_fr.proofs.is_cardinal.Tie as tie
 
-within : (c : tie.After-plan2) → c .before .plan-cardinal .result ≤ length (c .before .plan-cardinal .last .1 .1 .1 .1 .0)
-within c = omega (arith, c .before .plan-cardinal .ensures .0, c .before .plan-cardinal .kept .1 .1 .1 .1 .0)
+within : (c : tie.After-plan-cardinal) → c .plan-cardinal .result ≤ length (c .plan-cardinal .last .1 .1 .1 .1 .0)
+within c = omega (arith, c .plan-cardinal .ensures .0, c .plan-cardinal .ensures .2)
 
 pub is-cardinal-spec : {M : Type 1} → statement M
 is-cardinal-spec =
     tie.close
     (tie.spec
-    (λ c. search needs)
     (λ c κs. search needs)
     (λ c. search needs)
     (λ c. sym (length-take-le _ _ (within (c .before))))
     (λ c κs. search needs)
-    (λ c. plan-stands _ _ _ _ _ (c .stands .ensures) (c .before .before .before .plan-cardinal .ensures .1)))
+    (λ c. plan-stands _ _ _ _ _ (c .stands .ensures) (c .before .before .plan-cardinal .ensures .1)))

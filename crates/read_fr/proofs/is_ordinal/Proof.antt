@@ -10,16 +10,15 @@ use Rattle.read_fr.proofs.Cases.{plan-stands}
 use Rattle.read_fr.proofs.is_ordinal.Statement.{statement}
 use Rattle.read_fr.proofs.is_ordinal.Tie as tie
 
-within : (c : tie.After-plan2) → c .before .plan-ordinal .result ≤ length (c .before .plan-ordinal .last .1 .1 .0)
-within c = omega (arith, c .before .plan-ordinal .ensures .0, c .before .plan-ordinal .kept .1 .1 .0)
+within : (c : tie.After-plan-ordinal) → c .plan-ordinal .result ≤ length (c .plan-ordinal .last .1 .1 .0)
+within c = omega (arith, c .plan-ordinal .ensures .0, c .plan-ordinal .ensures .2)
 
 pub is-ordinal-spec : {M : Type 1} → statement M
 is-ordinal-spec =
     tie.close
     (tie.spec
-    (λ c. search needs)
     (λ c κs. search needs)
     (λ c. search needs)
     (λ c. sym (length-take-le _ _ (within (c .before))))
     (λ c κs. search needs)
-    (λ c. plan-stands _ _ _ _ _ (c .stands .ensures) (c .before .before .before .plan-ordinal .ensures .1)))
+    (λ c. plan-stands _ _ _ _ _ (c .stands .ensures) (c .before .before .plan-ordinal .ensures .1)))

@@ -11,9 +11,9 @@ use Rattle.spell_fr.proofs.plan_cardinal.Tie as tie
 returns : tie.Need-returns
 unfolding cardinalPhrase
 returns c =
-    let s = c .before .before .before .before .before .before in
-    let t = c .before .before .plan-words .ensures in
-    (omega (arith, t .near), told-phrase (joiner (s .args .f)) (cardinalWords (s .args .f) (s .args .zero) (s .args .negative) (s .args .gs .now)) t)
+    let s = c .before .before .before in
+    let t = c .plan-words .ensures in
+    (omega (arith, t .near), told-phrase (joiner (s .args .f)) (cardinalWords (s .args .f) (s .args .zero) (s .args .negative) (s .args .gs .now)) t, t .same)
 
 pub plan-cardinal-spec : {M : Type 1} → statement M
 plan-cardinal-spec =
@@ -21,5 +21,4 @@ plan-cardinal-spec =
     (tie.spec
     (λ c κs. search needs)
     (λ c κs. search needs)
-    (λ c. search needs)
     returns)

@@ -25,7 +25,7 @@ times-small c = go (eqb c 0)
     go true = omega arith
     go false = omega arith
 
-pub one-small : (v : ℕ) → v < 1000 → one v < 1000
+one-small : (v : ℕ) → v < 1000 → one v < 1000
 one-small v h = go (eqb v 0)
   where
     go : (t : Bool) → cond t 1 v < 1000
