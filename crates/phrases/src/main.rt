@@ -1,4 +1,4 @@
 // The program phrases: a line of standard input is a form, and is answered by a line.
 fn main() {
-    blocks::answer_input();
+    phrases_blocks::answer_input();
 }

@@ -13,30 +13,30 @@ use Rattle.base.specs.Same.{sameText}
 use Rattle.base.proofs.Same.{same-not}
 use Rattle.tokens.specs.Tokens.{firstWord, afterWord, split, keyFrom}
 use Rattle.meanings.specs.Lookup.{lookup}
-use Rattle.meanings_uk.specs.Meanings.{placed, others, meaningOf}
+use Rattle.uk_meanings.specs.Meanings.{placed, others, meaningOf}
 use Rattle.figures.specs.Groups.{groupsOf, total}
 use Rattle.uk.specs.UkTables.{zeros, gendered, units, teensBases, teensFlexions, tens, hundreds, thousandFlexions, megaBases, megaFlexions}
 use Rattle.uk.specs.Ukrainian.{unitForm, teenForm, scaleEnding, nounForm, ukrainian}
 use Rattle.uk.specs.Cardinal.{groupOf, groupsBelow, cardinalWords}
-use Rattle.ordinal.specs.OrdinalTables.{ordinalZeroBase, oneBase, ordinalUnitBases, ordinalTensBases, hundredBase, adjectiveHardFlexionsSingular, adjectiveHardFlexionsPlural, adjectiveSoftFlexionsSingular, adjectiveSoftFlexionsPlural, year}
-use Rattle.ordinal.specs.Ordinal.{flexion, compounds, scaleWord, plainWords, lowestWords, lowest, ordinalWords, allZero}
-use Rattle.ordinal.specs.Year.{yearWords}
-use Rattle.money.specs.NounTables.{noun2stGroupHardDeclensions, noun2stGroupSoftDeclensions, noun1stGroupSoftDeclensionsVowel, noun1stGroupHardDeclensions, adjectiveHardMasculine, hryvnias, kopiykas}
-use Rattle.money.specs.Nouns.{endings, formOf, nameForms}
-use Rattle.money.specs.Currencies.{currencies}
-use Rattle.money.specs.Codes.{placeIn}
-use Rattle.money.specs.Money.{agreedName, countWords, moneyWords}
+use Rattle.uk_ordinal.specs.OrdinalTables.{ordinalZeroBase, oneBase, ordinalUnitBases, ordinalTensBases, hundredBase, adjectiveHardFlexionsSingular, adjectiveHardFlexionsPlural, adjectiveSoftFlexionsSingular, adjectiveSoftFlexionsPlural, year}
+use Rattle.uk_ordinal.specs.Ordinal.{flexion, compounds, scaleWord, plainWords, lowestWords, lowest, ordinalWords, allZero}
+use Rattle.uk_ordinal.specs.Year.{yearWords}
+use Rattle.uk_money.specs.NounTables.{noun2stGroupHardDeclensions, noun2stGroupSoftDeclensions, noun1stGroupSoftDeclensionsVowel, noun1stGroupHardDeclensions, adjectiveHardMasculine, hryvnias, kopiykas}
+use Rattle.uk_money.specs.Nouns.{endings, formOf, nameForms}
+use Rattle.uk_money.specs.Currencies.{currencies}
+use Rattle.uk_money.specs.Codes.{placeIn}
+use Rattle.uk_money.specs.Money.{agreedName, countWords, moneyWords}
 use Rattle.fr.specs.FrTables.{units as frUnits, tens as frTens, teens, megas}
 use Rattle.fr.specs.Rules.{centWord, hundredWords, tenWord, roundWord, link, unitWord, pairWord, lowWords, scaleWords, groupWords}
 use Rattle.fr.specs.Cardinal.{groupsBelow as frGroupsBelow, cardinalWords as frCardinalWords, cardinalPhrase}
 use Rattle.fr.specs.Ordinal.{withoutE, nth, ordinalPhrase as frOrdinalPhrase}
-use Rattle.read_uk.specs.Reading.{Taken, taken, sums, signed, unsigned}
-use Rattle.read_uk.proofs.Taking.{closed}
-use Rattle.read_uk.proofs.Falls.{sums-taken, sums-over}
-use Rattle.calls_uk.specs.Cardinals.{cardinal}
-use Rattle.calls_ordinal.specs.Calls.{ordinalPhrase, yearPhrase}
-use Rattle.calls_money.specs.MoneyCalls.{moneyPhrase}
-use Rattle.calls_fr.specs.Calls.{cardinalOf, ordinalOf}
+use Rattle.uk_read.specs.Reading.{Taken, taken, sums, signed, unsigned}
+use Rattle.uk_read.proofs.Taking.{closed}
+use Rattle.uk_read.proofs.Falls.{sums-taken, sums-over}
+use Rattle.uk_calls.specs.Cardinals.{cardinal}
+use Rattle.uk_ordinal_calls.specs.Calls.{ordinalPhrase, yearPhrase}
+use Rattle.uk_money_calls.specs.MoneyCalls.{moneyPhrase}
+use Rattle.fr_calls.specs.Calls.{cardinalOf, ordinalOf}
 use Rattle.samples.specs.Samples.{replyTo, card, ord, frenchCard, never, unread, Holds, samples, All}
 use Rattle.samples.proofs.Unread.{no-sentence}
 

@@ -11,11 +11,11 @@ use Rattle.tokens.proofs.Words.{split-joined}
 use Rattle.figures.specs.Groups.{groupsOf, total}
 use Rattle.uk.specs.Ukrainian.{ukrainian}
 use Rattle.uk.specs.Cardinal.{cardinalWords}
-use Rattle.read_uk.specs.Reading.{sums, signed, unsigned}
-use Rattle.read_uk.proofs.Known.{lawful}
-use Rattle.read_uk.proofs.Numbers.{spelled}
-use Rattle.read_uk.proofs.Sentences.{separable, reads}
-use Rattle.calls_uk.specs.Cardinals.{Means}
+use Rattle.uk_read.specs.Reading.{sums, signed, unsigned}
+use Rattle.uk_read.proofs.Known.{lawful}
+use Rattle.uk_read.proofs.Numbers.{spelled}
+use Rattle.uk_read.proofs.Sentences.{separable, reads}
+use Rattle.uk_calls.specs.Cardinals.{Means}
 
 pub no-sentence : (g c : ℕ) (s : List ℕ) (m : Bool) (n : ℕ) → g < 3 → c < 6 → signed (split s) ≡ m → total (sums 22 (unsigned (split s))) ≡ n
     → (joined (cardinalWords (ukrainian g c) (eqb n 0) m (groupsOf 22 n)) ≡ s → ⊥) → (t : List ℕ) → Means g c s t → ⊥

@@ -7,12 +7,12 @@ use mathlib.Core.List.{List, [], _∷_}
 use lib.IntN.{ℤ, pos, negℤ}
 use Rattle.base.specs.Utf8.{utf8}
 use Rattle.base.specs.Answer.{Reply, refused, bytes, numberOf}
-use Rattle.money.specs.Codes.{currencyOf}
+use Rattle.uk_money.specs.Codes.{currencyOf}
 use Rattle.uk.specs.Settings.{unlessSettings}
-use Rattle.calls_uk.specs.Cardinals.{refusedCardinal, cardinal, Means}
-use Rattle.calls_ordinal.specs.Calls.{refusedOrdinal, ordinalPhrase, yearPhrase}
-use Rattle.calls_money.specs.MoneyCalls.{refusedAmount, moneyPhrase}
-use Rattle.calls_fr.specs.Calls.{french, firstRefusal, cardinalRefusal, ordinalRefusal, cardinalOf, ordinalOf}
+use Rattle.uk_calls.specs.Cardinals.{refusedCardinal, cardinal, Means}
+use Rattle.uk_ordinal_calls.specs.Calls.{refusedOrdinal, ordinalPhrase, yearPhrase}
+use Rattle.uk_money_calls.specs.MoneyCalls.{refusedAmount, moneyPhrase}
+use Rattle.fr_calls.specs.Calls.{french, firstRefusal, cardinalRefusal, ordinalRefusal, cardinalOf, ordinalOf}
 
 -- a spelling call: its settings, in the calls' order, and what it is given
 pub data Call : Type 0 where

@@ -2,15 +2,15 @@
 -- Assumes nothing.
 use Prim.Native.Nat.{ℕ, _<_}
 use Rattle.base.specs.Claim.{Readable}
-use Rattle.calls_uk.specs.Cardinals as uk
-use Rattle.calls_uk.proofs.Theorem as uk-cardinals
-use Rattle.money.specs.Currencies.{currencyAt}
-use Rattle.calls_money.specs.MoneyCalls as money
-use Rattle.calls_money.proofs.Theorem as uk-money
+use Rattle.uk_calls.specs.Cardinals as uk
+use Rattle.uk_calls.proofs.Theorem as uk-cardinals
+use Rattle.uk_money.specs.Currencies.{currencyAt}
+use Rattle.uk_money_calls.specs.MoneyCalls as money
+use Rattle.uk_money_calls.proofs.Theorem as uk-money
 use Rattle.fr.specs.Rules.{InRange}
 use Rattle.fr.specs.declared.French.{French}
-use Rattle.calls_fr.specs.Calls as fr
-use Rattle.calls_fr.proofs.Theorems as fr-theorems
+use Rattle.fr_calls.specs.Calls as fr
+use Rattle.fr_calls.proofs.Theorems as fr-theorems
 
 -- Ukrainian cardinals, under every gender and case
 pub ukrainian-cardinals : (gender case : ℕ) → gender < 3 → case < 6 → Readable uk.Admitted (uk.cardinal gender case) (uk.Means gender case)

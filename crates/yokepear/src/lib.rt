@@ -3,12 +3,12 @@
 use base::Answer;
 ghost use Rattle.base.specs.Answer.{replied, Answers, ReadsUnless};
 ghost use Rattle.uk.specs.Settings.{unlessSettings};
-ghost use Rattle.calls_uk.specs.Cardinals.{refusedCardinal, refusedSetting, cardinal, Means};
-ghost use Rattle.calls_fr.specs.Calls.{french, settingsRefusal, cardinalRefusal, ordinalRefusal, firstRefusal, cardinalOf, ordinalOf, CardinalMeans, OrdinalMeans};
-ghost use Rattle.money.specs.Codes.{currencyOf};
-ghost use Rattle.calls_money.specs.MoneyCalls.{refusedCode, refusedAmount, moneyPhrase, Means as MoneyMeans};
-ghost use Rattle.ordinal.specs.DigitOrdinal.{digitOrdinal};
-ghost use Rattle.calls_ordinal.specs.Calls.{refusedOrdinal, refusedDigitOrdinal, ordinalPhrase, yearPhrase};
+ghost use Rattle.uk_calls.specs.Cardinals.{refusedCardinal, refusedSetting, cardinal, Means};
+ghost use Rattle.fr_calls.specs.Calls.{french, settingsRefusal, cardinalRefusal, ordinalRefusal, firstRefusal, cardinalOf, ordinalOf, CardinalMeans, OrdinalMeans};
+ghost use Rattle.uk_money.specs.Codes.{currencyOf};
+ghost use Rattle.uk_money_calls.specs.MoneyCalls.{refusedCode, refusedAmount, moneyPhrase, Means as MoneyMeans};
+ghost use Rattle.uk_ordinal.specs.DigitOrdinal.{digitOrdinal};
+ghost use Rattle.uk_ordinal_calls.specs.Calls.{refusedOrdinal, refusedDigitOrdinal, ordinalPhrase, yearPhrase};
 
 // The cardinal of a number text.
 #[no_mangle]
@@ -21,7 +21,7 @@ pub extern "C" fn yokepear_uk_to_cardinal(
 ) -> Answer
     ensures { λ r. ⌜ Answers r (now (out .entry)) (now (out .exit)) (replied (refusedCardinal gender number case (now (text .entry))) (cardinal gender case (now (text .entry))) (now (out .entry))) ⌝ }
 {
-    calls_uk::to_cardinal(gender, number, case, text, out)
+    uk_calls::to_cardinal(gender, number, case, text, out)
 }
 
 // The number text of a cardinal.
@@ -35,7 +35,7 @@ pub extern "C" fn yokepear_uk_from_cardinal(
 ) -> Answer
     ensures { λ r. ⌜ ReadsUnless (refusedSetting gender number case) (Means gender case) (now (phrase .entry)) r (now (out .entry)) (now (out .exit)) ⌝ }
 {
-    calls_uk::from_cardinal(gender, number, case, phrase, out)
+    uk_calls::from_cardinal(gender, number, case, phrase, out)
 }
 
 // The ordinal of a number text.
@@ -49,7 +49,7 @@ pub extern "C" fn yokepear_uk_to_ordinal(
 ) -> Answer
     ensures { λ r. ⌜ Answers r (now (out .entry)) (now (out .exit)) (replied (unlessSettings gender number case (refusedOrdinal (now (text .entry)))) (ordinalPhrase gender number case (now (text .entry))) (now (out .entry))) ⌝ }
 {
-    calls_ordinal::to_ordinal(gender, number, case, text, out)
+    uk_ordinal_calls::to_ordinal(gender, number, case, text, out)
 }
 
 // The digit ordinal of a number text.
@@ -63,7 +63,7 @@ pub extern "C" fn yokepear_uk_to_ordinal_num(
 ) -> Answer
     ensures { λ r. ⌜ Answers r (now (out .entry)) (now (out .exit)) (replied (unlessSettings gender number case (refusedDigitOrdinal (now (text .entry)))) (digitOrdinal gender number case (now (text .entry))) (now (out .entry))) ⌝ }
 {
-    calls_ordinal::to_ordinal_num(gender, number, case, text, out)
+    uk_ordinal_calls::to_ordinal_num(gender, number, case, text, out)
 }
 
 // The phrase of a year.
@@ -77,7 +77,7 @@ pub extern "C" fn yokepear_uk_to_year(
 ) -> Answer
     ensures { λ r. ⌜ Answers r (now (out .entry)) (now (out .exit)) (replied (unlessSettings gender number case 0) (yearPhrase number case year) (now (out .entry))) ⌝ }
 {
-    calls_ordinal::to_year(gender, number, case, year, out)
+    uk_ordinal_calls::to_year(gender, number, case, year, out)
 }
 
 // The phrase of a money text in a currency.
@@ -92,7 +92,7 @@ pub extern "C" fn yokepear_uk_to_currency(
 ) -> Answer
     ensures { λ r. ⌜ Answers r (now (out .entry)) (now (out .exit)) (replied (refusedAmount gender number case (now (code .entry)) (now (text .entry))) (moneyPhrase (currencyOf (now (code .entry))) case (now (text .entry))) (now (out .entry))) ⌝ }
 {
-    calls_money::to_currency(gender, number, case, code, text, out)
+    uk_money_calls::to_currency(gender, number, case, code, text, out)
 }
 
 // The money text of an amount in a currency.
@@ -107,7 +107,7 @@ pub extern "C" fn yokepear_uk_from_currency(
 ) -> Answer
     ensures { λ r. ⌜ ReadsUnless (refusedCode gender number case (now (code .entry))) (MoneyMeans (currencyOf (now (code .entry))) case) (now (phrase .entry)) r (now (out .entry)) (now (out .exit)) ⌝ }
 {
-    calls_money::from_currency(gender, number, case, code, phrase, out)
+    uk_money_calls::from_currency(gender, number, case, code, phrase, out)
 }
 
 // The French cardinal of a number text.
@@ -121,7 +121,7 @@ pub extern "C" fn yokepear_fr_to_cardinal(
 ) -> Answer
     ensures { λ r. ⌜ Answers r (now (out .entry)) (now (out .exit)) (replied (firstRefusal (french feminine reformed region) (cardinalRefusal (now (text .entry)))) (cardinalOf (french feminine reformed region) (now (text .entry))) (now (out .entry))) ⌝ }
 {
-    calls_fr::to_cardinal(feminine, reformed, region, text, out)
+    fr_calls::to_cardinal(feminine, reformed, region, text, out)
 }
 
 // The French ordinal of a number text.
@@ -135,7 +135,7 @@ pub extern "C" fn yokepear_fr_to_ordinal(
 ) -> Answer
     ensures { λ r. ⌜ Answers r (now (out .entry)) (now (out .exit)) (replied (firstRefusal (french feminine reformed region) (ordinalRefusal (now (text .entry)))) (ordinalOf (french feminine reformed region) (now (text .entry))) (now (out .entry))) ⌝ }
 {
-    calls_fr::to_ordinal(feminine, reformed, region, text, out)
+    fr_calls::to_ordinal(feminine, reformed, region, text, out)
 }
 
 // The number text of a French cardinal.
@@ -149,7 +149,7 @@ pub extern "C" fn yokepear_fr_from_cardinal(
 ) -> Answer
     ensures { λ r. ⌜ ReadsUnless (settingsRefusal (french feminine reformed region)) (CardinalMeans (french feminine reformed region)) (now (phrase .entry)) r (now (out .entry)) (now (out .exit)) ⌝ }
 {
-    calls_fr::from_cardinal(feminine, reformed, region, phrase, out)
+    fr_calls::from_cardinal(feminine, reformed, region, phrase, out)
 }
 
 // The number text of a French ordinal.
@@ -163,5 +163,5 @@ pub extern "C" fn yokepear_fr_from_ordinal(
 ) -> Answer
     ensures { λ r. ⌜ ReadsUnless (settingsRefusal (french feminine reformed region)) (OrdinalMeans (french feminine reformed region)) (now (phrase .entry)) r (now (out .entry)) (now (out .exit)) ⌝ }
 {
-    calls_fr::from_ordinal(feminine, reformed, region, phrase, out)
+    fr_calls::from_ordinal(feminine, reformed, region, phrase, out)
 }

@@ -1,0 +1,79 @@
+-- The calls' answers against their definitions.
+-- Assumes nothing.
+use Prim.Native.Nat.{ℕ, _^_, _<_, _≤_}
+use mathlib.Core.Path.{_≡_, refl, sym, _∙_}
+use mathlib.Core.Bool.{Bool, true, false}
+use mathlib.Core.List.{List}
+use borrow.Author.Tests.{lt-ltb, le-ltb}
+use lib.Dec.{ltb, eqb}
+use Rattle.tables.proofs.Tests.{clash-of as clash}
+use Rattle.base.specs.Answer.{refused, fitted, replied, Answers, Reads, ReadsUnless}
+use Rattle.base.specs.declared.Answer.{Answer}
+use Rattle.base.proofs.Replies.{refusal, refusal-some}
+use Rattle.figures.specs.Text.{value, negative, unsigned, signedText}
+use Rattle.figures.specs.Groups.{groupsOf, total}
+use Rattle.figures.proofs.Laws.Groups.{groups-length, groups-below, total-groups}
+use Rattle.plan.specs.Phrase.{phrase}
+use Rattle.plan.specs.Plan.{says}
+use Rattle.fr.specs.Cardinal.{cardinalPhrase}
+use Rattle.fr.specs.Ordinal.{ordinalPhrase}
+use Rattle.fr.specs.declared.French.{French}
+use Rattle.fr_plan.specs.Top.{Groups34}
+use Rattle.fr_read.specs.Promise.{ReadNth}
+use Rattle.fr_calls.specs.Calls.{inRange, firstRefusal, settingsRefusal, cardinalOf, ordinalOf, OrdinalMeans}
+
+-- settings
+module _ (F : French) where
+  pub all-in : F .feminine < 2 → F .reformed < 2 → ltb (F .region) 3 ≡ inRange F
+  all-in a b = rw (lt-ltb (F .feminine) 2 a, lt-ltb (F .reformed) 2 b) refl
+
+  pub reformed-out : F .feminine < 2 → 2 ≤ F .reformed → false ≡ inRange F
+  reformed-out a b = rw (lt-ltb (F .feminine) 2 a, le-ltb (F .reformed) 2 b) refl
+
+  pub feminine-out : 2 ≤ F .feminine → false ≡ inRange F
+  feminine-out a = rw (le-ltb (F .feminine) 2 a) refl
+
+-- refusals
+pub refuses-text : (F : French) (xs b : List ℕ) (n m : ℕ) → inRange F ≡ true → n ≡ m → (n ≡ 0 → ⊥)
+    → Answers (record { number = n; length = 0 }) xs xs (replied (firstRefusal F m) b xs)
+refuses-text F xs b n m t e z = rw t (refusal-some xs b n m e z)
+
+pub refuses-settings : (F : French) (xs b : List ℕ) (m : ℕ) → inRange F ≡ false → Answers (record { number = 1; length = 0 }) xs xs (replied (firstRefusal F m) b xs)
+refuses-settings F xs b m t = rw t (refusal xs 1)
+
+pub answers-text : (F : French) (r : Answer) (xs ys b : List ℕ) (m : ℕ) → inRange F ≡ true → m ≡ 0 → Answers r xs ys (fitted xs b)
+    → Answers r xs ys (replied (firstRefusal F m) b xs)
+answers-text F r xs ys b m t e a = rw (t, e) a
+
+-- the plan says the text's phrase
+pub planned-cardinal : (F : French) (xs us plan gs : List ℕ) (z m : Bool) (n : ℕ) → z ≡ eqb (value (unsigned xs)) 0 → m ≡ negative xs → us ≡ unsigned xs
+    → gs ≡ groupsOf 34 (value us) → phrase (says plan n) ≡ cardinalPhrase F z m gs → phrase (says plan n) ≡ cardinalOf F xs
+unfolding cardinalOf
+planned-cardinal F xs us plan gs z m n ez em eu eg e = e ∙ rw (ez, em, eg, eu) refl
+
+pub planned-ordinal : (F : French) (xs us plan gs : List ℕ) (n : ℕ) → value (unsigned xs) < 1000 ^ 34 → us ≡ unsigned xs → gs ≡ groupsOf 34 (value us)
+    → phrase (says plan n) ≡ ordinalPhrase F (eqb (total gs) 0) (eqb (total gs) 1) gs → phrase (says plan n) ≡ ordinalOf F xs
+unfolding ordinalOf
+planned-ordinal F xs us plan gs n h eu eg e = e ∙ rw (eg, eu, total-groups 34 (value (unsigned xs)) h) refl
+
+pub text-groups : (gs : List ℕ) (x : ℕ) → gs ≡ groupsOf 34 x → Groups34 gs
+text-groups gs x e = rw e (groups-length 34 x, groups-below 34 x)
+
+-- the promise of the reader of ordinals, for each of its answers
+module _ (F : French) (s gs xs ys : List ℕ) (r : Answer) where
+  pub ordinal-none : (b : Bool) → ReadNth F s b gs → b ≡ false → Answers r xs ys (refused 6 0) → Reads (OrdinalMeans F) s r xs ys
+  ordinal-none b p e a = record { sentence = λ t m. clash (sym e ∙ p .reads (m .magnitude) (m .says) .0); none = λ f. a }
+
+  pub ordinal-some : (b : Bool) → ReadNth F s b gs → b ≡ true → Answers r xs ys (fitted xs (signedText false (total gs))) → Reads (OrdinalMeans F) s r xs ys
+  ordinal-some b p e a = record {
+    sentence = λ t x. rw (x .text, ← p .reads (x .magnitude) (x .says) .1) a;
+    none = λ f. clash (sym (p .refuses (λ n q. f (signedText false n) (record { magnitude = n; says = q; text = refl }))) ∙ e);
+  }
+
+  -- settings first
+  module _ (Means : List ℕ → List ℕ → Type 0) where
+    pub reads-settled : inRange F ≡ true → Reads Means s r xs ys → ReadsUnless (settingsRefusal F) Means s r xs ys
+    reads-settled t p = rw t p
+
+    pub reads-unsettled : inRange F ≡ false → Answers r xs ys (refused 1 0) → ReadsUnless (settingsRefusal F) Means s r xs ys
+    reads-unsettled t p = rw t p

@@ -1,0 +1,19 @@
+-- `fr_calls::read_cardinal` meets its contract: the number text of a sentence, or 6.
+-- Assumes nothing.
+use mathlib.Core.Path.{sym}
+use native.Mathlib.Omega.{arith}
+use borrow.Author.Needs.{needs}
+use Rattle.fr.specs.Grammar.{Says}
+use Rattle.numerals.proofs.Readings.{read-right}
+use Rattle.fr_calls.proofs.read_cardinal.Statement.{statement}
+use Rattle.fr_calls.proofs.read_cardinal.Tie as tie
+
+pub read-cardinal-spec : {M : Type 1} → statement M
+read-cardinal-spec =
+    tie.close
+    (tie.spec
+    (λ c κs. search needs)
+    (λ c. sym (c .before .read-cardinal .ensures .1 .0))
+    (λ c κs. let p = c .before .before .read-cardinal in (p .ensures .1 .1, (omega (arith, p .ensures .1 .0), omega (arith, p .ensures .1 .0))))
+    (λ c. search needs)
+    (λ c. let a = c .before .before .before .before .before .before .before .before .before .args in read-right (Says (a .f)) (a .said .now) _ (a .out .now) _ _ _ (c .before .before .before .before .before .read-cardinal .ensures .0) (c .before .before .put-seen .ensures)))

@@ -1,0 +1,27 @@
+-- `fr_read::read_cardinal` meets its contract.
+-- Assumes nothing.
+use borrow.Author.Needs.{needs}
+use mathlib.Core.Path.{_≡_}
+use lib.Dec.{lit<}
+use Rattle.fr_read.specs.Reading.{meanings, unsigned, guessed}
+use Rattle.fr_read.proofs.Promises.{are-groups, behind, read}
+use Rattle.fr_read.proofs.read_cardinal.Statement.{statement}
+use Rattle.fr_read.proofs.read_cardinal.Tie as tie
+
+-- the groups are those guessed behind the sign
+groups : (c : tie.After-guess) → c .guess .last .1 .0 ≡ guessed (unsigned (meanings (c .before .before .before .before .before .args .s .now)))
+groups c = behind (c .before .before .before .before .before .args .s .now) _ (c .before .before .before .sign .result) (c .guess .ensures) (c .before .before .before .sign .ensures .1)
+
+pub read-cardinal-spec : {M : Type 1} → statement M
+read-cardinal-spec =
+    tie.close
+    (tie.spec
+    (λ c κs. search needs)
+    (λ c. search needs)
+    (λ c. search needs)
+    (λ c. search needs)
+    (λ c κs. search needs)
+    (λ c κs. (lit< tt, are-groups _ _ (groups (c .before))))
+    (λ c κs. search needs)
+    (λ c κs. search needs)
+    (λ c. let s = c .before .before .before .before .before .before .before .before .before .before in rw (c .seen-of .ensures) (read (s .args .f) (s .pre .0) (s .args .s .now) _ (groups (c .before .before .before .before .before)) _ _ _ (c .before .before .before .is .ensures) (c .before .before .before .before .before .before .before .before .sign .ensures .0) (c .before .is-cardinal .ensures))))

@@ -1,0 +1,208 @@
+// Readers of French phrases. The meanings of the words are added up, leniently, to a number; then the number's own phrase, by the speller's
+// plan, is held against the bytes. So everything that depends on a setting stands in the planner alone.
+use figures::Seen;
+use fr::French;
+ghost use mathlib.Core.Path.{_≡_};
+ghost use mathlib.Core.List.{_∷_, _++_};
+ghost use Prim.Native.Nat.{ℕ, _+_, _-_, _%_, _≤_, _<_};
+ghost use lib.Dec.{eqb, ltb};
+ghost use lib.ListN.{length, drop, replicate};
+ghost use Rattle.base.specs.Decides.{Decides};
+ghost use Rattle.figures.specs.Groups.{total};
+ghost use Rattle.figures.specs.Seen.{ReadOf};
+ghost use Rattle.fr.specs.Rules.{InRange};
+ghost use Rattle.fr.specs.Cardinal.{cardinalPhrase};
+ghost use Rattle.fr.specs.Ordinal.{ordinalPhrase};
+ghost use Rattle.fr.specs.Grammar.{Says};
+ghost use Rattle.fr_plan.specs.Top.{Groups34};
+ghost use Rattle.fr_read.specs.Reading.{meanings, grow as growOf, times as timesOf, one as oneOf, guess as guessOf, seems, reads, isMinus, unsigned, guessed};
+ghost use Rattle.fr_read.specs.Promise.{ReadNth};
+
+// A number below a hundred, what the word that ends it means, and where the next word starts.
+pub struct Part {
+    pub c: u16,
+    pub m: u16,
+    pub next: usize,
+}
+
+// A group's value and order, and where the next group starts.
+pub struct Seem {
+    pub value: u16,
+    pub order: usize,
+    pub next: usize,
+}
+
+// The last two digits of a sum.
+fn sum(c: u16, m: u16) -> u16
+    requires { ⌜ (c < 100) × (m ≤ 100) ⌝ }
+    ensures { λ r. ⌜ r ≡ (c + m) % 100 ⌝ }
+{
+    if c + m < 100 { c + m } else { c + m - 100 }
+}
+
+// One more word of a number below a hundred.
+fn grow(c: u16, m: u16) -> u16
+    requires { ⌜ (c < 100) × (m ≤ 100) ⌝ }
+    ensures { λ r. ⌜ r ≡ growOf c m ⌝ }
+{
+    if c == 4 {
+        if m == 20 { 80 } else { sum(c, m) }
+    } else {
+        sum(c, m)
+    }
+}
+
+// How many hundreds `cent` is after c.
+fn times(c: u16) -> u16
+    ensures { λ r. ⌜ r ≡ timesOf c ⌝ }
+{
+    if c == 0 {
+        return 1;
+    }
+    if c < 10 { c } else { c % 10 }
+}
+
+// What a scale word is after the number v.
+fn one(v: u16) -> u16
+    ensures { λ r. ⌜ r ≡ oneOf v ⌝ }
+{
+    if v == 0 { 1 } else { v }
+}
+
+// The order of a scale word's meaning.
+fn order_of(m: u16) -> usize
+    ensures { λ r. ⌜ r ≡ m - 1000 ⌝ }
+{
+    if m < 1000 { 0 } else { (m - 1000) as usize }
+}
+
+// The number below a hundred from a place on: its words, up to one that means a hundred or more, or the end, which means 0.
+fn low(s: &[u8], from: usize) -> Part
+    requires { ⌜ from < length (now s) ⌝ }
+    ensures { λ r. ⌜ ((h : ℕ) → seems h 0 (meanings (drop from (now (s .entry)))) ≡ seems h (r .c) (r .m ∷ meanings (drop (r .next) (now (s .entry))))) ⌝ }
+    ensures { λ r. ⌜ (r .c < 100) × (from < r .next) × (r .next ≤ length (now (s .entry))) × (r .m < 100 → (r .m ≡ 0) × (length (now (s .entry)) ≤ r .next)) ⌝ }
+{
+    let mut c: u16 = 0;
+    let mut at = from;
+    while at < s.len() {
+        let w = walker::word(s, at);
+        let m = fr_meanings::meaning(w.key);
+        at += w.next;
+        if 99 < m {
+            return Part { c, m, next: at };
+        }
+        c = grow(c, m);
+    }
+    Part { c, m: 0, next: at }
+}
+
+// The group at the front: its words, up to a scale word or the end.
+fn group(s: &[u8]) -> Seem
+    ensures { λ r. ⌜ seems 0 0 (meanings (now (s .entry))) ≡ guessOf (r .value) (r .order) (meanings (drop (r .next) (now (s .entry)))) ⌝ }
+    ensures { λ r. ⌜ r .next ≤ length (now (s .entry)) ⌝ }
+{
+    let mut h: u16 = 0;
+    let mut at: usize = 0;
+    while at < s.len() {
+        let t = low(s, at);
+        at = t.next;
+        if 100 < t.m {
+            return Seem {
+                value: one(100 * h + t.c),
+                order: order_of(t.m),
+                next: at,
+            };
+        }
+        if t.m < 100 {
+            return Seem {
+                value: 100 * h + t.c,
+                order: 0,
+                next: at,
+            };
+        }
+        h = times(t.c);
+    }
+    Seem {
+        value: 100 * h,
+        order: 0,
+        next: at,
+    }
+}
+
+// The groups of the orders below k, from the highest down; each call has the order of the group that it follows, which is lower, and the part of
+// the text behind it. The orders that are not there stay 0.
+fn groups(k: usize, s: &[u8], out: &mut [u16; 34])
+    requires { ⌜ (k ≤ 34) × (now out ≡ replicate k 0 ++ drop k (now out)) ⌝ }
+    ensures { λ _. ⌜ now (out .exit) ≡ reads k (seems 0 0 (meanings (now (s .entry)))) ++ drop k (now (out .entry)) ⌝ }
+{
+    let g = group(s);
+    let order = g.order;
+    if order < k {
+        out[order] = g.value;
+        let at = g.next;
+        groups(order, &s[at..], out);
+    }
+}
+
+// All groups.
+fn guess(s: &[u8], out: &mut [u16; 34])
+    ensures { λ _. ⌜ now (out .exit) ≡ guessed (meanings (now (s .entry))) ⌝ }
+{
+    *out = [0u16; 34];
+    groups(34, s, out);
+}
+
+// How many bytes the minus word and the gap behind it have at the front; 0 where it does not stand there.
+fn sign(s: &[u8]) -> usize
+    ensures { λ r. ⌜ (ltb 0 r ≡ isMinus (meanings (now (s .entry)))) × (meanings (drop r (now (s .entry))) ≡ unsigned (meanings (now (s .entry)))) × (r ≤ length (now (s .entry))) ⌝ }
+{
+    let w = walker::word(s, 0);
+    if w.more {
+        if fr_meanings::meaning(w.key) == 2001 {
+            return w.next;
+        }
+        return 0;
+    }
+    0
+}
+
+// Whether s is the cardinal of these groups.
+fn is_cardinal(f: French, zero: bool, negative: bool, gs: &[u16; 34], s: &[u8]) -> bool
+    requires { ⌜ InRange f ⌝ }
+    ensures { λ r. ⌜ Decides r (cardinalPhrase f zero negative (now (gs .entry)) ≡ now (s .entry)) ⌝ }
+{
+    let mut plan = [0u32; 308];
+    let n = fr_plan::plan_cardinal(f, zero, negative, gs, &mut plan);
+    plan::stands(&plan[..n], s)
+}
+
+// Whether s is the ordinal of these groups.
+fn is_ordinal(f: French, gs: &[u16; 34], s: &[u8]) -> bool
+    requires { ⌜ InRange f × Groups34 (now gs) ⌝ }
+    ensures { λ r. ⌜ Decides r (ordinalPhrase f (eqb (total (now (gs .entry))) 0) (eqb (total (now (gs .entry))) 1) (now (gs .entry)) ≡ now (s .entry)) ⌝ }
+{
+    let mut plan = [0u32; 308];
+    let n = fr_plan::plan_ordinal(f, gs, &mut plan);
+    plan::stands(&plan[..n], s)
+}
+
+// Any bytes as a cardinal under these settings: what they are by the grammar, with the groups in out.
+pub fn read_cardinal(f: French, s: &[u8], out: &mut [u16; 34]) -> Seen
+    requires { ⌜ InRange f × (length (now out) ≡ 34) ⌝ }
+    ensures { λ r. ⌜ ReadOf (Says f (now (s .entry))) r (now (out .exit)) × Groups34 (now (out .exit)) ⌝ }
+{
+    let k = sign(s);
+    guess(&s[k..], out);
+    let zero = fr_plan::is(out, 0);
+    let stands = is_cardinal(f, zero, 0 < k, out, s);
+    figures::seen_of(stands, zero, 0 < k)
+}
+
+// Any bytes as an ordinal under these settings: whether they are one by the grammar, with the groups in out.
+pub fn read_ordinal(f: French, s: &[u8], out: &mut [u16; 34]) -> bool
+    requires { ⌜ InRange f × (length (now out) ≡ 34) ⌝ }
+    ensures { λ r. ⌜ ReadNth f (now (s .entry)) r (now (out .exit)) × Groups34 (now (out .exit)) ⌝ }
+{
+    guess(s, out);
+    is_ordinal(f, out, s)
+}

@@ -1,0 +1,39 @@
+// The lines that are written.
+use base::Answer;
+ghost use mathlib.Core.List.{[]};
+ghost use Prim.Native.Nat.{_≤_, _<_};
+ghost use lib.ListN.{length, take};
+ghost use Rattle.phrases_answers.specs.Answers.{told, badLine};
+ghost use Rattle.phrases_answers.specs.Wrote.{Wrote};
+
+// Writes the answer to a line that is no form.
+pub fn bad(out: &mut [u8]) -> usize
+    requires { ⌜ 12321 ≤ length (now out) ⌝ }
+    ensures { λ r. ⌜ Wrote badLine r (now (out .entry)) (now (out .exit)) ⌝ }
+{
+    bytes::copy(b"bad line\n", out)
+}
+
+// Writes a refusal.
+pub fn refuse(n: u32, out: &mut [u8]) -> usize
+    requires { ⌜ (0 < n) × (n < 10) × (12321 ≤ length (now out)) ⌝ }
+    ensures { λ r. ⌜ Wrote (told n []) r (now (out .entry)) (now (out .exit)) ⌝ }
+{
+    let mut line = *b"refused 0\n";
+    line[8] = 48 + (n as u8);
+    bytes::copy(&line, out)
+}
+
+// Ends the line of a call's answer, whose phrase, if it is one, stands at the front of out.
+pub fn finish(a: Answer, out: &mut [u8]) -> usize
+    requires { ⌜ (a .number < 10) × (a .length ≤ 12320) × (12321 ≤ length (now out)) ⌝ }
+    ensures { λ r. ⌜ Wrote (told (a .number) (take (a .length) (now (out .entry)))) r (now (out .entry)) (now (out .exit)) ⌝ }
+{
+    let number = a.number;
+    let length = a.length;
+    if number == 0 {
+        out[length] = 10;
+        return length + 1;
+    }
+    refuse(number, out)
+}

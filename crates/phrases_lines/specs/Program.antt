@@ -1,0 +1,43 @@
+-- What the program writes to its input (01, "The program phrases"): the answers to the lines, in order.
+-- Assumes nothing.
+use Prim.Native.Nat.{ℕ}
+use mathlib.Core.Path.{_≡_}
+use mathlib.Core.Bool.{Bool, true, cond, not, _&&_}
+use mathlib.Core.List.{List, [], _∷_, _++_}
+use lib.Dec.{eqb}
+use Rattle.phrases_answers.specs.Answers.{answerLine}
+
+-- a byte put before the first of some lines
+abbrev pub toFirst : ℕ → List (List ℕ) → List (List ℕ)
+toFirst b [] = (b ∷ []) ∷ []
+toFirst b (l ∷ ls) = (b ∷ l) ∷ ls
+
+-- what stands before each line feed ("byte 10"), and at last what is behind them all
+unfoldable pub parts : List ℕ → List (List ℕ)
+parts [] = [] ∷ []
+parts (b ∷ s) = cond (eqb b 10) ([] ∷ parts s) (toFirst b (parts s))
+
+-- "the last line may lack its line end": what is behind the last line feed is a line unless it is nothing
+abbrev pub lastAnswer : List ℕ → List ℕ
+lastAnswer [] = []
+lastAnswer (b ∷ l) = answerLine (b ∷ l)
+
+-- the answers to the lines, one after another ("writes one line each")
+unfoldable pub answers : List (List ℕ) → List ℕ
+answers [] = []
+answers (l ∷ []) = lastAnswer l
+answers (l ∷ m ∷ ls) = answerLine l ++ answers (m ∷ ls)
+
+-- what is written to an input
+unfoldable pub program : List ℕ → List ℕ
+program s = answers (parts s)
+
+-- no line feed stands in a line
+unfoldable pub isLine : List ℕ → Bool
+isLine [] = true
+isLine (b ∷ s) = not (eqb b 10) && isLine s
+
+-- the line so far p and then the bytes of a block came in, w was written, and the line so far is q: whatever follows, what was written and what will
+-- be is the answer to all of it
+abbrev pub Answered : List ℕ → List ℕ → List ℕ → List ℕ → Type 0
+Answered p block w q = (rest : List ℕ) → program (p ++ (block ++ rest)) ≡ w ++ program (q ++ rest)

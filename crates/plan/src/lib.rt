@@ -1,0 +1,183 @@
+// Phrases: a plan is built piece by piece, measured, written, and compared with a text. Every kind of phrase goes through these functions.
+use base::Answer;
+ghost use mathlib.Core.Path.{_≡_};
+ghost use Prim.Native.Nat.{_+_, _*_, _≤_, _<_};
+ghost use mathlib.Core.List.{[], _∷_};
+ghost use lib.ListN.{length};
+ghost use Rattle.base.specs.Buffer.{over};
+ghost use Rattle.base.specs.Answer.{fitted, Answers};
+ghost use Rattle.base.specs.Decides.{Decides};
+ghost use Rattle.words.specs.Text.{text};
+ghost use Rattle.base.specs.Front.{passed};
+ghost use Rattle.plan.specs.Phrase.{following, phrase as phraseOf};
+ghost use Rattle.plan.specs.Plan.{pieceOf, pieces, says, Added};
+ghost use Rattle.plan.specs.Stands.{stands as standsAs};
+
+// Adds a piece to a plan of which `at` are written; returns how many are written then.
+pub fn push(plan: &mut [u32], at: usize, separator: u8, id: u16) -> usize
+    requires { ⌜ at < length (now plan) ⌝ }
+    ensures { λ r. ⌜ Added 1 (now (plan .entry)) at (now (plan .exit)) r ((separator, text id) ∷ []) ⌝ }
+{
+    plan[at] = (id as u32) * 256 + (separator as u32);
+    at + 1
+}
+
+// The length of a piece with its separator.
+fn piece_len(code: u32) -> usize
+    ensures { λ r. ⌜ (r ≡ length (following (pieceOf code ∷ []))) × (r ≤ 40) ⌝ }
+{
+    let n = words::len(code / 256);
+    if code % 256 == 0 { n } else { n + 1 }
+}
+
+// The length of pieces that follow others.
+fn following_len(plan: &[u32]) -> usize
+    requires { ⌜ length (now plan) ≤ 1000 ⌝ }
+    ensures { λ r. ⌜ (r ≡ length (following (pieces (now (plan .entry))))) × (r ≤ 40 * length (now (plan .entry))) ⌝ }
+{
+    let mut n: usize = 0;
+    let mut i: usize = 0;
+    while i < plan.len() {
+        let m = piece_len(plan[i]);
+        n = n + m;
+        i = i + 1;
+    }
+    n
+}
+
+// The length of a phrase.
+fn len(plan: &[u32]) -> usize
+    requires { ⌜ length (now plan) ≤ 1000 ⌝ }
+    ensures { λ r. ⌜ (r ≡ length (phraseOf (pieces (now (plan .entry))))) × (r ≤ 40 * length (now (plan .entry))) ⌝ }
+{
+    if plan.len() == 0 {
+        return 0;
+    }
+    let n = words::len(plan[0] / 256);
+    n + following_len(&plan[1..])
+}
+
+// Writes a piece with its separator over the front of out.
+fn put_piece(code: u32, out: &mut [u8]) -> usize
+    requires { ⌜ length (following (pieceOf code ∷ [])) ≤ length (now out) ⌝ }
+    ensures { λ r. ⌜ (r ≡ length (following (pieceOf code ∷ []))) × (now (out .exit) ≡ over (now (out .entry)) (following (pieceOf code ∷ []))) ⌝ }
+{
+    let separator = code % 256;
+    if separator == 0 {
+        return words::put(code / 256, out);
+    }
+    out[0] = separator as u8;
+    let n = words::put(code / 256, &mut out[1..]);
+    n + 1
+}
+
+// Writes pieces that follow others; each hands on what is left of out.
+fn put_following(plan: &[u32], out: &mut [u8]) -> usize
+    requires { ⌜ length (following (pieces (now plan))) ≤ length (now out) ⌝ }
+    ensures { λ r. ⌜ (r ≡ length (following (pieces (now (plan .entry))))) × (now (out .exit) ≡ over (now (out .entry)) (following (pieces (now (plan .entry))))) ⌝ }
+{
+    let mut k: usize = 0;
+    let mut i: usize = 0;
+    while i < plan.len() {
+        let n = put_piece(plan[i], &mut out[k..]);
+        k = k + n;
+        i = i + 1;
+    }
+    k
+}
+
+// Writes a phrase over the front of out.
+fn put(plan: &[u32], out: &mut [u8]) -> usize
+    requires { ⌜ length (phraseOf (pieces (now plan))) ≤ length (now out) ⌝ }
+    ensures { λ r. ⌜ (r ≡ length (phraseOf (pieces (now (plan .entry))))) × (now (out .exit) ≡ over (now (out .entry)) (phraseOf (pieces (now (plan .entry))))) ⌝ }
+{
+    if plan.len() == 0 {
+        return 0;
+    }
+    let k = words::put(plan[0] / 256, out);
+    let n = put_following(&plan[1..], &mut out[k..]);
+    k + n
+}
+
+// Answers with what the first n pieces of a plan say: measured first, and written where out holds it.
+fn speak_measured(plan: &[u32], n: usize, out: &mut [u8]) -> Answer
+    requires { ⌜ (n ≤ length (now plan)) × (n ≤ 1000) ⌝ }
+    ensures { λ r. ⌜ Answers r (now (out .entry)) (now (out .exit)) (fitted (now (out .entry)) (phraseOf (says (now (plan .entry)) n))) ⌝ }
+    ensures { λ r. ⌜ r .length ≤ 40 * n ⌝ }
+{
+    let size = len(&plan[..n]);
+    if out.len() < size {
+        return Answer {
+            number: 7,
+            length: size,
+        };
+    }
+    put(&plan[..n], out);
+    Answer {
+        number: 0,
+        length: size,
+    }
+}
+
+// Answers with what the first n pieces of a plan say. No piece has more than 40 bytes, so it is measured only where out might not hold it.
+pub fn speak(plan: &[u32], n: usize, out: &mut [u8]) -> Answer
+    requires { ⌜ (n ≤ length (now plan)) × (n ≤ 1000) ⌝ }
+    ensures { λ r. ⌜ Answers r (now (out .entry)) (now (out .exit)) (fitted (now (out .entry)) (phraseOf (says (now (plan .entry)) n))) ⌝ }
+    ensures { λ r. ⌜ r .length ≤ 40 * n ⌝ }
+{
+    if out.len() < 40 * n {
+        return speak_measured(plan, n, out);
+    }
+    let length = put(&plan[..n], out);
+    Answer { number: 0, length }
+}
+
+// One more than the length of a piece with its separator, where s begins with them; else 0.
+fn pass_piece(code: u32, s: &[u8]) -> usize
+    ensures { λ r. ⌜ r ≡ passed (following (pieceOf code ∷ [])) (now (s .entry)) ⌝ }
+{
+    let separator = code % 256;
+    if separator == 0 {
+        return words::pass(code / 256, s);
+    }
+    if s.len() == 0 {
+        return 0;
+    }
+    if s[0] as u32 != separator {
+        return 0;
+    }
+    let n = words::pass(code / 256, &s[1..]);
+    if n == 0 { 0 } else { n + 1 }
+}
+
+// Whether s is made of these pieces, which follow others; each turn hands on the part of s after the pieces before it.
+fn stand_following(plan: &[u32], s: &[u8]) -> bool
+    ensures { λ r. ⌜ r ≡ standsAs (pieces (now (plan .entry))) (now (s .entry)) ⌝ }
+{
+    let mut k: usize = 0;
+    let mut i: usize = 0;
+    while i < plan.len() {
+        let n = pass_piece(plan[i], &s[k..]);
+        if n == 0 {
+            return false;
+        }
+        k = k + (n - 1);
+        i = i + 1;
+    }
+    k == s.len()
+}
+
+// Whether s is the phrase of a plan.
+pub fn stands(plan: &[u32], s: &[u8]) -> bool
+    ensures { λ r. ⌜ Decides r (phraseOf (pieces (now (plan .entry))) ≡ now (s .entry)) ⌝ }
+{
+    if plan.len() == 0 {
+        return s.len() == 0;
+    }
+    let n = words::pass(plan[0] / 256, s);
+    if n == 0 {
+        return false;
+    }
+    let k = n - 1;
+    stand_following(&plan[1..], &s[k..])
+}

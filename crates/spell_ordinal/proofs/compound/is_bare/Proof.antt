@@ -1,8 +1,0 @@
--- `spell_ordinal::compound::is_bare` meets its contract.
--- Assumes nothing.
-use mathlib.Core.Path.{refl}
-use Rattle.spell_ordinal.proofs.compound.is_bare.Statement.{statement}
-use Rattle.spell_ordinal.proofs.compound.is_bare.Tie as tie
-
-pub is-bare-spec : {M : Type 1} → statement M
-is-bare-spec = tie.close (tie.spec (λ c. rw (c .if1 .taken) refl) (λ c. rw (c .if1 .left) refl))

@@ -1,0 +1,20 @@
+-- `uk_calls::read` meets its contract: the number text of a sentence, or 6.
+-- Assumes nothing.
+use mathlib.Core.Path.{sym}
+use native.Mathlib.Omega.{arith}
+use borrow.Author.Needs.{needs}
+use Rattle.uk.specs.Ukrainian.{ukrainian}
+use Rattle.uk.specs.Grammar.{Says}
+use Rattle.numerals.proofs.Readings.{read-right}
+use Rattle.uk_calls.proofs.read.Statement.{statement}
+use Rattle.uk_calls.proofs.read.Tie as tie
+
+pub read-spec : {M : Type 1} → statement M
+read-spec =
+    tie.close
+    (tie.spec
+    (λ c κs. search needs)
+    (λ c. sym (c .before .read-cardinal .ensures .2))
+    (λ c κs. let p = c .before .before .read-cardinal in (p .ensures .1, (omega (arith, p .ensures .2), omega (arith, p .ensures .2))))
+    (λ c. search needs)
+    (λ c. let a = c .before .before .before .before .before .before .before .before .before .args in read-right (Says (ukrainian (a .settings .gender) (a .settings .case))) (a .said .now) _ (a .out .now) _ _ _ (c .before .before .before .before .before .read-cardinal .ensures .0) (c .before .before .put-seen .ensures)))

@@ -1,0 +1,64 @@
+-- The names of units of money: how their nouns are declined (01, "Ukrainian money"; the nouns' tables are uk.rs's).
+-- Grammatical numbers are 0 singular, 1 plural; cases 0 to 5 from the nominative on; genders 0 masculine, 1 feminine.
+-- Assumes nothing.
+use Prim.Native.Nat.{ℕ}
+use Prim.Native.String.{String}
+use mathlib.Core.List.{List, [], _∷_, _++_, map}
+use Rattle.base.specs.Join.{Word}
+use Rattle.base.specs.Utf8.{utf8, form2}
+use Rattle.uk_money.specs.NounTables.{noun2stGroupHardDeclensions, noun2stGroupSoftDeclensions, noun1stGroupSoftDeclensionsVowel, noun1stGroupHardDeclensions, adjectiveHardMasculine, hryvnias, kopiykas}
+
+-- the classes of endings: those of долар, юань, рупія and єна, of a hard adjective, none for a noun that is not declined, and two nouns that
+-- are written out whole and have an empty stem
+pub data Class : Type 0 where
+  hard2 : Class
+  soft2 : Class
+  vowel1 : Class
+  hard1 : Class
+  adj : Class
+  fixed : Class
+  hryvnia : Class
+  kopiyka : Class
+
+-- the endings of a class, by grammatical number, then case
+unfoldable pub endings : Class → List (List String)
+endings hard2 = noun2stGroupHardDeclensions
+endings soft2 = noun2stGroupSoftDeclensions
+endings vowel1 = noun1stGroupSoftDeclensionsVowel
+endings hard1 = noun1stGroupHardDeclensions
+endings adj = adjectiveHardMasculine
+endings fixed = []
+endings hryvnia = hryvnias
+endings kopiyka = kopiykas
+
+-- a word of a name: its stem, and the class of its endings
+pub record Noun : Type 0 where
+  pub stem : String
+  pub class : Class
+
+-- a word from its stem and its class
+abbrev pub noun : String → Class → Noun
+noun stem class = record { stem = stem; class = class }
+
+-- the form of a word by grammatical number and case
+unfoldable pub formOf : Noun → ℕ → ℕ → Word
+formOf n number case = utf8 (n .stem) ++ form2 (endings (n .class)) number case
+
+-- the name of a unit: its gender, and its words, a noun or an adjective and a noun
+pub record Name : Type 0 where
+  pub gender : ℕ
+  pub words : List Noun
+
+-- a masculine noun as a name; a feminine one; a masculine adjective and noun
+abbrev pub masculine : String → Class → Name
+masculine stem class = record { gender = 0; words = noun stem class ∷ [] }
+
+abbrev pub feminine : String → Class → Name
+feminine stem class = record { gender = 1; words = noun stem class ∷ [] }
+
+abbrev pub masculine-pair : String → Class → String → Class → Name
+masculine-pair s c t d = record { gender = 0; words = noun s c ∷ noun t d ∷ [] }
+
+-- the words of a name by grammatical number and case
+unfoldable pub nameForms : Name → ℕ → ℕ → List Word
+nameForms name number case = map (λ n. formOf n number case) (name .words)

@@ -1,0 +1,62 @@
+// Digit ordinals: the text's own digits, a hyphen and an ending. They need no plan, since all but the ending stands in the text.
+use base::Answer;
+use uk::Settings;
+ghost use mathlib.Core.Path.{_≡_};
+ghost use mathlib.Core.Bool.{true};
+ghost use mathlib.Core.List.{_∷_, _++_};
+ghost use Prim.Native.Nat.{_≤_, _<_};
+ghost use lib.ListN.{length};
+ghost use Rattle.base.specs.Buffer.{over};
+ghost use Rattle.base.specs.Answer.{fitted, Answers};
+ghost use Rattle.words.specs.Text.{text as textOf};
+ghost use Rattle.figures.specs.Text.{digits, value};
+ghost use Rattle.uk_ordinal.specs.Ordinal.{soft};
+ghost use Rattle.uk_ordinal.specs.DigitOrdinal.{digitOrdinal};
+
+// Whether the ordinal of what the digits mean has a soft ending: the last is 3, and the one before it is not 1.
+fn is_soft(text: &[u8]) -> bool
+    requires { ⌜ (digits (now text) ≡ true) × (0 < length (now text)) ⌝ }
+    ensures { λ r. ⌜ r ≡ soft (value (now (text .entry))) ⌝ }
+{
+    let n = text.len();
+    if text[n - 1] == 51 {
+        if n == 1 {
+            return true;
+        }
+        return text[n - 2] != 49;
+    }
+    false
+}
+
+// Writes the digits, a hyphen and the ending with this number.
+fn put(text: &[u8], ending: u32, out: &mut [u8]) -> usize
+    requires { ⌜ length (now text ++ (45 ∷ textOf ending)) ≤ length (now out) ⌝ }
+    ensures { λ r. ⌜ (r ≡ length (now (text .entry) ++ (45 ∷ textOf ending))) × (now (out .exit) ≡ over (now (out .entry)) (now (text .entry) ++ (45 ∷ textOf ending))) ⌝ }
+{
+    let n = bytes::copy(text, out);
+    out[n] = 45;
+    let k = n + 1;
+    let m = words::put(ending, &mut out[k..]);
+    k + m
+}
+
+// The digit ordinal of an admitted text, written where out holds it. It is measured first where out might not: no ending has 40 bytes.
+pub fn say(settings: Settings, text: &[u8], out: &mut [u8]) -> Answer
+    requires { ⌜ ((settings .gender < 3) × (settings .number < 2) × (settings .case < 6)) × (digits (now text) ≡ true) × (0 < length (now text)) × (length (now text) ≤ 39) ⌝ }
+    ensures { λ r. ⌜ Answers r (now (out .entry)) (now (out .exit)) (fitted (now (out .entry)) (digitOrdinal (settings .gender) (settings .number) (settings .case) (now (text .entry)))) ⌝ }
+    ensures { λ r. ⌜ r .length ≤ 12320 ⌝ }
+{
+    let ending = uk_ordinal::short_ending(is_soft(text), settings) as u32;
+    let n = text.len() + 1;
+    if out.len() < n + 40 {
+        let size = n + words::len(ending);
+        if out.len() < size {
+            return Answer {
+                number: 7,
+                length: size,
+            };
+        }
+    }
+    let length = put(text, ending, out);
+    Answer { number: 0, length }
+}

@@ -1,0 +1,116 @@
+// Ukrainian ordinals, digit ordinals and years from bytes to bytes. No phrase has more than 12,320 bytes: the program keeps that much room for an
+// answer.
+mod digits; // digits.rt: digit ordinals
+
+use base::Answer;
+use uk::Settings;
+ghost use mathlib.Core.Path.{_≡_};
+ghost use mathlib.Core.Bool.{true};
+ghost use Prim.Native.Nat.{_≤_, _<_};
+ghost use Rattle.base.specs.Answer.{fitted, replied, Answers};
+ghost use Rattle.figures.specs.Text.{digits as digitsOf};
+ghost use Rattle.uk.specs.Settings.{unlessSettings};
+ghost use Rattle.uk_ordinal.specs.DigitOrdinal.{digitOrdinal};
+ghost use Rattle.uk_ordinal.specs.Year.{early};
+ghost use Rattle.uk_ordinal_calls.specs.Calls.{refusedOrdinal, refusedDigitOrdinal, ordinalPhrase, yearPhrase};
+
+// Whether a year is 0 or below.
+fn is_early(year: i64) -> bool
+    ensures { λ r. ⌜ r ≡ early year ⌝ }
+{
+    year <= 0
+}
+
+// The refusal of an ordinal's settings and text, 0 for none.
+fn refuse_ordinal(gender: u32, number: u32, case: u32, text: &[u8]) -> u32
+    ensures { λ r. ⌜ r ≡ unlessSettings gender number case (refusedOrdinal (now (text .entry))) ⌝ }
+{
+    if uk::in_range(gender, number, case) {
+        figures::refusals::number_of(figures::refusals::judge(text, false, 66))
+    } else {
+        1
+    }
+}
+
+// The refusal of a digit ordinal's settings and text, 0 for none.
+fn refuse_digit_ordinal(gender: u32, number: u32, case: u32, text: &[u8]) -> u32
+    ensures { λ r. ⌜ r ≡ unlessSettings gender number case (refusedDigitOrdinal (now (text .entry))) ⌝ }
+{
+    if uk::in_range(gender, number, case) {
+        figures::refusals::number_of(figures::refusals::judge_digit_ordinal(text))
+    } else {
+        1
+    }
+}
+
+// The ordinal of an admitted text.
+fn say_ordinal(settings: Settings, text: &[u8], out: &mut [u8]) -> Answer
+    requires { ⌜ ((settings .gender < 3) × (settings .number < 2) × (settings .case < 6)) × (digitsOf (now text) ≡ true) ⌝ }
+    ensures { λ r. ⌜ Answers r (now (out .entry)) (now (out .exit)) (fitted (now (out .entry)) (ordinalPhrase (settings .gender) (settings .number) (settings .case) (now (text .entry)))) ⌝ }
+    ensures { λ r. ⌜ r .length ≤ 12320 ⌝ }
+{
+    let gs = groups::groups22(text);
+    let mut plan = [0u32; 116];
+    let n = uk_ordinal_plan::plan_ordinal(settings, &gs, &mut plan);
+    plan::speak(&plan, n, out)
+}
+
+// A year.
+fn say_year(settings: Settings, year: i64, out: &mut [u8]) -> Answer
+    requires { ⌜ (settings .gender < 3) × (settings .number < 2) × (settings .case < 6) ⌝ }
+    ensures { λ r. ⌜ Answers r (now (out .entry)) (now (out .exit)) (fitted (now (out .entry)) (yearPhrase (settings .number) (settings .case) year)) ⌝ }
+    ensures { λ r. ⌜ r .length ≤ 12320 ⌝ }
+{
+    let mut gs = [0u16; 22];
+    groups::groups_from(figures::year::magnitude(year), &mut gs);
+    let mut plan = [0u32; 119];
+    let n = uk_ordinal_plan::plan_year(settings, is_early(year), &gs, &mut plan);
+    plan::speak(&plan, n, out)
+}
+
+// The ordinal of a number text.
+pub fn to_ordinal(gender: u32, number: u32, case: u32, text: &[u8], out: &mut [u8]) -> Answer
+    ensures { λ r. ⌜ Answers r (now (out .entry)) (now (out .exit)) (replied (unlessSettings gender number case (refusedOrdinal (now (text .entry)))) (ordinalPhrase gender number case (now (text .entry))) (now (out .entry))) ⌝ }
+    ensures { λ r. ⌜ r .length ≤ 12320 ⌝ }
+{
+    let n = refuse_ordinal(gender, number, case, text);
+    if n == 0 {
+        say_ordinal(uk::settings_of(gender, number, case), text, out)
+    } else {
+        Answer {
+            number: n,
+            length: 0,
+        }
+    }
+}
+
+// The digit ordinal of a number text.
+pub fn to_ordinal_num(gender: u32, number: u32, case: u32, text: &[u8], out: &mut [u8]) -> Answer
+    ensures { λ r. ⌜ Answers r (now (out .entry)) (now (out .exit)) (replied (unlessSettings gender number case (refusedDigitOrdinal (now (text .entry)))) (digitOrdinal gender number case (now (text .entry))) (now (out .entry))) ⌝ }
+    ensures { λ r. ⌜ r .length ≤ 12320 ⌝ }
+{
+    let n = refuse_digit_ordinal(gender, number, case, text);
+    if n == 0 {
+        digits::say(uk::settings_of(gender, number, case), text, out)
+    } else {
+        Answer {
+            number: n,
+            length: 0,
+        }
+    }
+}
+
+// The phrase of a year.
+pub fn to_year(gender: u32, number: u32, case: u32, year: i64, out: &mut [u8]) -> Answer
+    ensures { λ r. ⌜ Answers r (now (out .entry)) (now (out .exit)) (replied (unlessSettings gender number case 0) (yearPhrase number case year) (now (out .entry))) ⌝ }
+    ensures { λ r. ⌜ r .length ≤ 12320 ⌝ }
+{
+    if uk::in_range(gender, number, case) {
+        say_year(uk::settings_of(gender, number, case), year, out)
+    } else {
+        Answer {
+            number: 1,
+            length: 0,
+        }
+    }
+}

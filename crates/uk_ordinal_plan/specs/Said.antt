@@ -1,0 +1,33 @@
+-- What pieces say after others, and how they begin: for words that run together from many pieces.
+-- Assumes nothing.
+use Prim.Native.Nat.{ℕ}
+use mathlib.Core.Path.{_≡_}
+use mathlib.Core.List.{List, [], _∷_, _++_, flatten}
+use Rattle.base.specs.Join.{Word, spaced}
+use Rattle.plan.specs.Phrase.{Piece, gap, following}
+use Rattle.plan.specs.Plan.{Added}
+
+-- no pieces, or the first has the separator s
+pub data Begun (s : ℕ) : List Piece → Type 0 where
+  nothing : Begun s []
+  piece : (w : Word) (ps : List Piece) → Begun s ((s, w) ∷ ps)
+
+-- the plan xs of which n are written has become ys with r written, by at most k more, begun with the separator s, which say the bytes b
+pub record Said (s k : ℕ) (xs : List ℕ) (n : ℕ) (ys : List ℕ) (r : ℕ) (b : List ℕ) : Type 0 where
+  pub pieces : List Piece
+  pub added : Added k xs n ys r pieces
+  pub begun : Begun s pieces
+  pub bytes : following pieces ≡ b
+
+-- words run together after the separator s; nothing for none
+unfoldable pub run : ℕ → List Word → List ℕ
+run s [] = []
+run s (w ∷ ws) = gap s ++ flatten (w ∷ ws)
+
+-- `Said` of the words ws, run together after the separator s
+pub record Ran (s k : ℕ) (xs : List ℕ) (n : ℕ) (ys : List ℕ) (r : ℕ) (ws : List Word) : Type 0 where
+  pub said : Said s k xs n ys r (run s ws)
+
+-- `Said` of the words ws, each after a space
+pub record Spoken (k : ℕ) (xs : List ℕ) (n : ℕ) (ys : List ℕ) (r : ℕ) (ws : List Word) : Type 0 where
+  pub said : Said 32 k xs n ys r (spaced ws)

@@ -1,0 +1,97 @@
+// The lowest group above order 0: one word, run together from what counts the scale, the scale's base, н and the ending.
+use plan::push;
+use uk_plan::ON;
+use uk_plan::SPACE;
+use uk_plan::say;
+ghost use mathlib.Core.Path.{_≡_};
+ghost use mathlib.Core.Bool.{_&&_};
+ghost use mathlib.Core.List.{[], _∷_};
+ghost use Prim.Native.Nat.{_+_, _-_, _≤_, _<_};
+ghost use lib.Dec.{eqb};
+ghost use lib.ListN.{length};
+ghost use Rattle.base.specs.Utf8.{utf8, form1};
+ghost use Rattle.words.specs.Text.{text};
+ghost use Rattle.uk.specs.UkTables.{megaBases};
+ghost use Rattle.uk.specs.Rules.{opt, lowWords, numWords};
+ghost use Rattle.uk.specs.Columns.{Column};
+ghost use Rattle.uk_ordinal.specs.Ordinal.{compounds, scaleWord};
+ghost use Rattle.uk_ordinal_plan.specs.Said.{Ran, Spoken};
+
+// A compound's unit, if any; what is said begins with the separator.
+fn count_unit(ids: &[u8], u: usize, separator: u8, plan: &mut [u32], at: usize) -> usize
+    requires { ⌜ Column 1 (now ids) × (u < 10) × (at < length (now plan)) ⌝ }
+    ensures { λ r. ⌜ Ran separator 1 (now (plan .entry)) at (now (plan .exit)) r (opt (compounds .unit 0) u) ⌝ }
+{
+    if u == 0 {
+        return at;
+    }
+    if u == 1 {
+        return push(plan, at, separator, uk_ordinal::ONE_BASE);
+    }
+    say(ids, u, separator, plan, at)
+}
+
+// A compound's teen, or its tens if any and its unit if any.
+fn count_low(ids: &[u8], t: usize, u: usize, separator: u8, plan: &mut [u32], at: usize) -> usize
+    requires { ⌜ Column 1 (now ids) × (t < 10) × (u < 10) × (at + 2 ≤ length (now plan)) ⌝ }
+    ensures { λ r. ⌜ Ran separator 2 (now (plan .entry)) at (now (plan .exit)) r (lowWords compounds 0 t u) ⌝ }
+{
+    if t == 0 {
+        return count_unit(ids, u, separator, plan, at);
+    }
+    if t == 1 {
+        let k = say(ids, 28 + u, separator, plan, at);
+        return say(ids, 63, ON, plan, k);
+    }
+    let k = say(ids, 36 + t, separator, plan, at);
+    count_unit(ids, u, ON, plan, k)
+}
+
+// What counts a scale in a compound.
+fn count(ids: &[u8], h: usize, t: usize, u: usize, plan: &mut [u32], at: usize) -> usize
+    requires { ⌜ Column 1 (now ids) × (h < 10) × (t < 10) × (u < 10) × (at + 3 ≤ length (now plan)) ⌝ }
+    ensures { λ r. ⌜ Ran 32 3 (now (plan .entry)) at (now (plan .exit)) r (numWords compounds 0 h t u) ⌝ }
+{
+    if h == 0 {
+        return count_low(ids, t, u, SPACE, plan, at);
+    }
+    let k = say(ids, 45 + h, SPACE, plan, at);
+    count_low(ids, t, u, ON, plan, k)
+}
+
+// The base of a scale, its adjective's н, and the ending.
+fn scale(ids: &[u8], order: usize, separator: u8, ending: u16, plan: &mut [u32], at: usize) -> usize
+    requires { ⌜ Column 1 (now ids) × (0 < order) × (order < 22) × (at + 3 ≤ length (now plan)) ⌝ }
+    ensures { λ r. ⌜ Ran separator 3 (now (plan .entry)) at (now (plan .exit)) r (form1 megaBases (order - 1) ∷ utf8 "н" ∷ text ending ∷ []) ⌝ }
+{
+    let a = say(ids, 63 + order, separator, plan, at);
+    let b = push(plan, a, ON, uk_ordinal::ADJECTIVE_N);
+    push(plan, b, ON, ending)
+}
+
+// Whether a group is a lone 1.
+fn is_bare(lone: bool, g: usize) -> bool
+    ensures { λ r. ⌜ r ≡ (lone && eqb g 1) ⌝ }
+{
+    if lone { g == 1 } else { false }
+}
+
+// The lowest group above order 0: one word.
+pub fn scale_word(
+    order: usize,
+    g: usize,
+    lone: bool,
+    ending: u16,
+    plan: &mut [u32],
+    at: usize,
+) -> usize
+    requires { ⌜ (0 < order) × (order < 22) × (0 < g) × (g < 1000) × (at + 6 ≤ length (now plan)) ⌝ }
+    ensures { λ r. ⌜ Spoken 6 (now (plan .entry)) at (now (plan .exit)) r (scaleWord (text ending) lone order g ∷ []) ⌝ }
+{
+    let ids = uk::column(1);
+    if is_bare(lone, g) {
+        return scale(&ids, order, SPACE, ending, plan, at);
+    }
+    let k = count(&ids, g / 100 % 10, g / 10 % 10, g % 10, plan, at);
+    scale(&ids, order, ON, ending, plan, k)
+}

@@ -1,0 +1,119 @@
+// The reader of Ukrainian cardinals. It takes any bytes word by word, makes a sign and groups of them, and compares the words that these have
+// under the settings, planned as the speller plans them, with the bytes.
+use figures::Seen;
+use uk::Settings;
+ghost use mathlib.Core.Path.{_≡_};
+ghost use mathlib.Core.Bool.{not};
+ghost use mathlib.Core.List.{_++_};
+ghost use Prim.Native.Nat.{_+_, _≤_, _<_};
+ghost use lib.Dec.{eqb};
+ghost use lib.ListN.{length, take, drop, replicate};
+ghost use Rattle.figures.specs.Groups.{total, Groups};
+ghost use Rattle.figures.specs.Seen.{ReadOf};
+ghost use Rattle.tokens.specs.Tokens.{split};
+ghost use Rattle.uk.specs.Ukrainian.{ukrainian};
+ghost use Rattle.uk.specs.Grammar.{Says};
+ghost use Rattle.uk_read.specs.Reading.{taken, sums, left, signed, unsigned};
+
+// A group's value and order, and how many bytes it has.
+pub struct Group {
+    pub value: u16,
+    pub order: usize,
+    pub at: usize,
+}
+
+// The group at the front of a text: number words up to a scale noun, or up to a word that is none, or the end.
+fn first_group(s: &[u8]) -> Group
+    ensures { λ r. ⌜ (r .value ≡ taken 0 (split (now (s .entry))) .value) × (r .order ≡ taken 0 (split (now (s .entry))) .order) × (r .value < 1000) ⌝ }
+    ensures { λ r. ⌜ (split (drop (r .at) (now (s .entry))) ≡ taken 0 (split (now (s .entry))) .rest) × (r .at ≤ length (now (s .entry))) ⌝ }
+{
+    let mut value: u16 = 0;
+    let mut at: usize = 0;
+    while at < s.len() {
+        let t = tokens::first(&s[at..]);
+        let m = uk_meanings::meaning(t.key);
+        if m == 0 {
+            return Group {
+                value,
+                order: 0,
+                at,
+            };
+        }
+        let next = at + t.next;
+        if 999 < m {
+            let order = (m - 1000) as usize;
+            return Group {
+                value,
+                order,
+                at: next,
+            };
+        }
+        value = (value + m) % 1000;
+        at = next;
+    }
+    Group {
+        value,
+        order: 0,
+        at,
+    }
+}
+
+// The groups of the orders below k, from the highest down; each call has a lower order and the part of the text behind its group.
+// The orders that are not there stay 0. Returns how many bytes the groups have.
+pub fn groups(k: usize, s: &[u8], out: &mut [u16; 22]) -> usize
+    requires { ⌜ (k ≤ 22) × (take k (now out) ≡ replicate k 0) ⌝ }
+    ensures { λ r. ⌜ (now (out .exit) ≡ sums k (split (now (s .entry))) ++ drop k (now (out .entry))) × (Groups (now (out .entry)) → Groups (now (out .exit))) ⌝ }
+    ensures { λ r. ⌜ (split (drop r (now (s .entry))) ≡ left k (split (now (s .entry)))) × (r ≤ length (now (s .entry))) ⌝ }
+{
+    let g = first_group(s);
+    let order = g.order;
+    if order < k {
+        out[order] = g.value;
+        let at = g.at;
+        let n = groups(order, &s[at..], out);
+        return at + n;
+    }
+    0
+}
+
+// How many bytes the minus word at the front of a text has with the space behind it; 0 where there is none.
+fn minus(s: &[u8]) -> usize
+    ensures { λ r. ⌜ (eqb r 0 ≡ not (signed (split (now (s .entry))))) × (split (drop r (now (s .entry))) ≡ unsigned (split (now (s .entry)))) × (r ≤ length (now (s .entry))) ⌝ }
+{
+    if s.len() == 0 {
+        return 0;
+    }
+    let t = tokens::first(s);
+    if uk_meanings::meaning(t.key) == 2001 {
+        return t.next;
+    }
+    0
+}
+
+// Whether all groups are 0.
+fn is_zero(gs: &[u16]) -> bool
+    ensures { λ r. ⌜ r ≡ eqb (total (now (gs .entry))) 0 ⌝ }
+{
+    let mut i: usize = 0;
+    while i < gs.len() {
+        if gs[i] != 0 {
+            return false;
+        }
+        i += 1;
+    }
+    true
+}
+
+// Any bytes, under these settings: what they are by the grammar, with the groups in out.
+pub fn read_cardinal(settings: Settings, s: &[u8], out: &mut [u16; 22]) -> Seen
+    requires { ⌜ (settings .gender < 3) × (settings .case < 6) × (now out ≡ replicate 22 0) ⌝ }
+    ensures { λ r. ⌜ ReadOf (Says (ukrainian (settings .gender) (settings .case)) (now (s .entry))) r (now (out .exit)) × Groups (now (out .exit)) × (length (now (out .exit)) ≡ 22) ⌝ }
+{
+    let m = minus(s);
+    groups(22, &s[m..], out);
+    let zero = is_zero(out);
+    let mut plan = [0u32; 112];
+    let n = uk_plan::plan_cardinal(settings, zero, 0 < m, out, &mut plan);
+    let stands = plan::stands(&plan[..n], s);
+    figures::seen_of(stands, zero, 0 < m)
+}
