@@ -1,7 +1,7 @@
 # Yokepear. Each target works from a fresh checkout; the toolchain's command `rt` must be on the PATH.
 .PHONY: test phrases lib host compare bench clean
 
-# The gate: every proof and every must-fail edit, then the host's tests and the comparison. The last line is the gate's verdict.
+# The generated files, the gate (every proof and every must-fail edit), the host's tests and the comparison. The last line is the verdict.
 test:
 	bash tools/test.sh
 
@@ -32,4 +32,4 @@ bench: lib
 	bench/run.sh
 
 clean:
-	rm -rf target
+	rm -rf target target-log

@@ -1,4 +1,4 @@
-//! Measures each call of the library over a fixed spread of inputs.
+//! Measures each call of the library on fixed inputs: a spread of lengths, and everyday figures.
 //!
 //! `bench count` answers every input once with the library and with plain C, each in its own run of
 //! `bench_pass`, for callgrind to count. `bench table [COUNTS]` takes the times and prints both.
@@ -17,20 +17,28 @@ mod random;
 mod inputs;
 mod subjects;
 mod table;
+mod times;
 
-use inputs::Input;
+use inputs::{Figures, Input};
 use kinds::{Kind, KINDS};
-use std::time::{Duration, Instant};
 use subjects::Subject;
 
-/// More than the longest answer.
-const ROOM: usize = 4096;
+/// The lent buffer, longer than the longest answer. It has a page of its own: an answer that goes over
+/// the edge of a page takes longer, and where the stack lies changes from run to run.
+#[repr(align(4096))]
+pub struct Room([u8; 4096]);
 
-/// One line of the table: a call on inputs of so many groups.
+impl Room {
+    pub fn new() -> Self {
+        Room([0; 4096])
+    }
+}
+
+/// One line of the table: a call on figures of one sort.
 pub struct Case {
     pub kind: Kind,
     pub reading: bool,
-    pub groups: usize,
+    pub figures: Figures,
     pub inputs: Vec<Input>,
 }
 
@@ -60,8 +68,8 @@ fn cases() -> Vec<Case> {
             if library(kind, reading).is_none() {
                 continue;
             }
-            for groups in inputs::group_counts(kind) {
-                let case = Case { kind, reading, groups, inputs: inputs::inputs(kind, groups) };
+            for figures in inputs::figures(kind) {
+                let case = Case { kind, reading, figures, inputs: inputs::inputs(kind, figures) };
                 check(&case);
                 cases.push(case);
             }
@@ -80,12 +88,12 @@ pub fn library(kind: Kind, reading: bool) -> Option<Subject> {
 
 /// What is measured must be right: the library and plain C give the Rust's phrase, or its text.
 fn check(case: &Case) {
-    let mut out = [0; ROOM];
+    let Room(out) = &mut Room::new();
     let plain = (!case.reading).then(|| subjects::plain(case.kind));
     for subject in library(case.kind, case.reading).into_iter().chain(plain) {
         for input in &case.inputs {
             let expected = if case.reading { &input.text } else { &input.phrase };
-            let length = subject(input, &mut out);
+            let length = subject(input, out);
             let shown = String::from_utf8_lossy(&input.text);
             assert!(out[..length] == expected[..], "another answer for {shown}");
         }
@@ -101,38 +109,9 @@ pub fn bench_pass(inputs: &[Input], subject: &Subject, out: &mut [u8]) -> usize 
 
 /// The passes that callgrind counts, in this order: the library, and plain C where it spells.
 fn count(case: &Case) {
-    let mut out = [0; ROOM];
+    let Room(out) = &mut Room::new();
     let plain = (!case.reading).then(|| subjects::plain(case.kind));
     for subject in library(case.kind, case.reading).into_iter().chain(plain) {
-        std::hint::black_box(bench_pass(&case.inputs, &subject, &mut out));
+        std::hint::black_box(bench_pass(&case.inputs, &subject, out));
     }
-}
-
-/// The shortest time of a pass over the inputs, in nanoseconds, for each subject; they take turns.
-pub fn times(inputs: &[Input], subjects: &[Subject]) -> Vec<f64> {
-    const ROUNDS: usize = 9;
-    let mut best = vec![f64::INFINITY; subjects.len()];
-    let passes: Vec<u32> = subjects.iter().map(|subject| passes(inputs, subject)).collect();
-    for _ in 0..ROUNDS {
-        for (at, subject) in subjects.iter().enumerate() {
-            let time = time(inputs, subject, passes[at]).as_nanos() as f64 / f64::from(passes[at]);
-            best[at] = best[at].min(time);
-        }
-    }
-    best
-}
-
-/// So many passes that they take about two milliseconds.
-fn passes(inputs: &[Input], subject: &Subject) -> u32 {
-    let once = time(inputs, subject, 3) / 3;
-    (Duration::from_millis(2).as_nanos() / once.as_nanos().max(1)).clamp(1, 10_000) as u32
-}
-
-fn time(inputs: &[Input], subject: &Subject, passes: u32) -> Duration {
-    let mut out = [0; ROOM];
-    let start = Instant::now();
-    for _ in 0..passes {
-        std::hint::black_box(bench_pass(inputs, subject, &mut out));
-    }
-    start.elapsed()
 }

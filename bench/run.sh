@@ -1,6 +1,7 @@
 #!/bin/bash
 # The benchmark: times of each call against the published Rust, a plain C speller and a copy of the
-# phrase, in one run, with instructions per phrase byte counted by callgrind beside them.
+# phrase, in one run, with instructions per phrase byte counted by callgrind beside them; then the
+# size of the library and its stack.
 # YOKEPEAR_LIB is the static library's folder, YOKEPEAR_SOURCES that of the published files,
 # YOKEPEAR_BUILD where programs are built.
 set -euo pipefail
@@ -8,6 +9,7 @@ here=$(cd "$(dirname "${BASH_SOURCE[0]}")" && pwd)
 repo=$(dirname "$here")
 . "$repo/compare/reference.sh"
 build=${YOKEPEAR_BUILD:-$repo/target}/bench
+lib=${YOKEPEAR_LIB:-$repo/target/staticlib}
 
 find_sources bench
 build_reference "$repo" "$build"
@@ -17,7 +19,7 @@ for source in plain plain_uk_cardinal plain_uk_ordinal plain_uk_money plain_fr; 
     -o "$build/$source.o"
 done
 ar rcs "$build/libplain.a" "$build"/plain*.o
-link_library "${YOKEPEAR_LIB:-$repo/target/staticlib}"
+link_library "$lib"
 "${rust[@]}" --crate-name bench -L "native=$build" -l static=plain "$here/main.rs"
 
 # Only what bench_pass does is collected (no start-up), and each of its runs is dumped by itself.
@@ -35,3 +37,10 @@ else
   echo "no valgrind: instructions are not counted"
 fi
 "$build/bench" table "$counts"
+
+# Each function and each constant has a section of its own, named after it.
+size -A "$lib/libyokepear.a" | awk '
+  $1 ~ /^\.text/ {code += $2}
+  $1 ~ /^\.rodata/ {constants += $2}
+  END {print "code and constants:", code + constants, "bytes (" code " and " constants ")"}'
+"$repo/host/stack.sh" | tail -n 1

@@ -39,16 +39,23 @@ macro_rules! c_call {
 
 macro_rules! on_text {
     ($name:ident, $field:ident) => {
-        c_call!($name, input, (*const u8, usize),
-            (input.$field.as_ptr(), input.$field.len()));
+        c_call!($name, input, (*const u8, usize), (input.$field.as_ptr(), input.$field.len()));
     };
 }
 
 macro_rules! on_money {
     ($name:ident, $field:ident) => {
-        c_call!($name, input, (*const u8, usize, *const u8, usize),
-            (input.manner.code.as_ptr(), input.manner.code.len(),
-             input.$field.as_ptr(), input.$field.len()));
+        c_call!(
+            $name,
+            input,
+            (*const u8, usize, *const u8, usize),
+            (
+                input.manner.code.as_ptr(),
+                input.manner.code.len(),
+                input.$field.as_ptr(),
+                input.$field.len()
+            )
+        );
     };
 }
 

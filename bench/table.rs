@@ -1,83 +1,92 @@
-//! Takes the times and prints the table.
+//! Prints the table.
 
-use crate::{library, subjects, times, Case};
+use crate::times::{times, Times};
+use crate::Case;
 
 /// What was measured for one case, summed over its inputs.
 #[derive(Clone, Copy, Default)]
 struct Measured {
     phrases: f64,
     bytes: f64,
-    ours: f64,
-    rust: f64,
-    plain: f64,
-    copy: f64,
+    times: Times,
     our_instructions: f64,
     plain_instructions: f64,
 }
 
 /// Bytes and nanoseconds are those of a phrase.
-const HEADINGS: [&str; 9] = [
+const HEADINGS: [&str; 10] = [
     "call",
-    "groups",
+    "figures",
     "bytes",
     "ns",
     "Rust / ours",
     "ours / plain C",
     "ours / copy",
+    "reading / spelling",
     "instructions per byte",
     "plain C's",
 ];
 
 /// The counts are callgrind's, in the order of the passes; without them, columns stay empty.
 pub fn print(cases: &[Case], counts: &[u64]) {
+    let passes: usize = cases.iter().map(passes).sum();
+    assert!(counts.is_empty() || counts.len() == passes, "{} counts for {passes}", counts.len());
     println!("| {} |", HEADINGS.join(" | "));
     println!("|{}", "---|".repeat(HEADINGS.len()));
     let mut counts = counts.iter().map(|count| *count as f64);
     let mut sum = Measured::default();
-    for (at, case) in cases.iter().enumerate() {
-        let measured = measure(case, &mut counts);
-        line(case, &case.groups.to_string(), &measured);
+    for (at, (case, times)) in cases.iter().zip(times(cases)).enumerate() {
+        let measured = measured(case, times, &mut counts);
+        line(case, &case.figures.label(), &measured);
+        if !case.figures.in_spread() {
+            continue;
+        }
         sum = add(sum, measured);
-        let next = cases.get(at + 1);
-        if next.is_none_or(|next| (next.kind, next.reading) != (case.kind, case.reading)) {
+        let more = |next: &&Case| next.figures.in_spread() && same_call(next, case);
+        if cases.get(at + 1).filter(more).is_none() {
             line(case, "all", &sum);
             sum = Measured::default();
         }
     }
 }
 
-fn measure(case: &Case, counts: &mut impl Iterator<Item = f64>) -> Measured {
-    let inputs = &case.inputs;
-    let mut subjects: Vec<_> = library(case.kind, case.reading).into_iter().collect();
-    subjects.push(subjects::copy());
-    if !case.reading {
-        subjects.push(subjects::plain(case.kind));
-        subjects.push(subjects::rust());
+/// How many passes callgrind counts for a case.
+fn passes(case: &Case) -> usize {
+    if case.reading {
+        1
+    } else {
+        2
     }
-    let times = times(inputs, &subjects);
-    let time = |at: usize| times.get(at).copied().unwrap_or(0.0);
+}
+
+fn same_call(a: &Case, b: &Case) -> bool {
+    (a.kind, a.reading) == (b.kind, b.reading)
+}
+
+fn measured(case: &Case, times: Times, counts: &mut impl Iterator<Item = f64>) -> Measured {
     let our_instructions = counts.next().unwrap_or(0.0);
     let plain_instructions = if case.reading { 0.0 } else { counts.next().unwrap_or(0.0) };
     Measured {
-        phrases: inputs.len() as f64,
-        bytes: inputs.iter().map(|input| input.phrase.len() as f64).sum(),
-        ours: time(0),
-        copy: time(1),
-        plain: time(2),
-        rust: time(3),
+        phrases: case.inputs.len() as f64,
+        bytes: case.inputs.iter().map(|input| input.phrase.len() as f64).sum(),
+        times,
         our_instructions,
         plain_instructions,
     }
 }
 
 fn add(a: Measured, b: Measured) -> Measured {
+    let times = Times {
+        ours: a.times.ours + b.times.ours,
+        copy: a.times.copy + b.times.copy,
+        plain: a.times.plain + b.times.plain,
+        rust: a.times.rust + b.times.rust,
+        spelling: a.times.spelling + b.times.spelling,
+    };
     Measured {
         phrases: a.phrases + b.phrases,
         bytes: a.bytes + b.bytes,
-        ours: a.ours + b.ours,
-        rust: a.rust + b.rust,
-        plain: a.plain + b.plain,
-        copy: a.copy + b.copy,
+        times,
         our_instructions: a.our_instructions + b.our_instructions,
         plain_instructions: a.plain_instructions + b.plain_instructions,
     }
@@ -92,17 +101,19 @@ fn ratio(a: f64, b: f64) -> String {
     }
 }
 
-fn line(case: &Case, groups: &str, m: &Measured) {
+fn line(case: &Case, figures: &str, m: &Measured) {
+    let times = &m.times;
     let call = if case.reading { case.kind.reading_call() } else { None };
     let call = call.unwrap_or(case.kind.spelling_call());
     let cells = [
         call.to_string(),
-        groups.to_string(),
+        figures.to_string(),
         format!("{:.0}", m.bytes / m.phrases),
-        format!("{:.0}", m.ours / m.phrases),
-        ratio(m.rust, m.ours),
-        ratio(m.ours, m.plain),
-        ratio(m.ours, m.copy),
+        format!("{:.0}", times.ours / m.phrases),
+        ratio(times.rust, times.ours),
+        ratio(times.ours, times.plain),
+        ratio(times.ours, times.copy),
+        ratio(times.ours, times.spelling),
         ratio(m.our_instructions, m.bytes),
         ratio(m.plain_instructions, m.bytes),
     ];

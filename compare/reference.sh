@@ -1,11 +1,22 @@
 # shellcheck shell=bash disable=SC2034
 # Sourced by the scripts that need the published Rust: where it is, and how it is built.
-# YOKEPEAR_SOURCES is the folder of the published files, the one that has src/lang/uk.rs.
+# YOKEPEAR_SOURCES is the folder of the published files, the one that has src/lang/uk.rs; where it is
+# not set they are looked for in ../shared/docs beside the checkout.
+
+# sources_beside: the folder of the published files beside the checkout, or nothing.
+sources_beside() {
+  local folder
+  for folder in "$(dirname "${BASH_SOURCE[0]}")"/../../shared/docs{,/src}; do
+    [ -f "$folder/src/lang/uk.rs" ] && { (cd "$folder" && pwd); return; }
+  done
+  return 0
+}
 
 # find_sources WHAT: says that WHAT is not run, and ends with 0, where they are not there.
 find_sources() {
   local file
-  [ -n "${YOKEPEAR_SOURCES:-}" ] || { echo "$1: NOT RUN, set YOKEPEAR_SOURCES to the folder of the published Rust"; exit 0; }
+  YOKEPEAR_SOURCES=${YOKEPEAR_SOURCES:-$(sources_beside)}
+  [ -n "$YOKEPEAR_SOURCES" ] || { echo "$1: NOT RUN, set YOKEPEAR_SOURCES to the folder of the published Rust"; exit 0; }
   export YOKEPEAR_SOURCES
   for file in lang/uk.rs lang/fr.rs currency.rs num2words.rs; do
     if [ ! -f "$YOKEPEAR_SOURCES/src/$file" ]; then

@@ -1,11 +1,13 @@
 #!/usr/bin/env python3
-# gen_meanings.py LANGUAGE: writes the crate meanings_LANGUAGE (code, specs and proofs) from the list tools/meanings_LANGUAGE.txt.
-# A line of the list is a meaning, a number, and the words that mean it: `4 quatre quatrième`. A word that means 0 has no arm; it is listed so
-# that no other word gets its key. Run by hand after a change of the list; what it writes is committed (run `rt fmt` afterwards).
+# gen_meanings.py [--check] [LANGUAGE...]: writes the crates uk_meanings and fr_meanings (code, specs and proofs) from the lists
+# tools/uk_meanings.txt and tools/fr_meanings.txt, in the layout of `rt fmt`. With --check it writes nothing and fails at a difference.
+# A line of a list is a meaning, a number, and the words that mean it: `4 quatre quatrième`. A word that means 0 has no arm; it is listed so
+# that no other word gets its key. Run by hand after a change of a list; what it writes is committed.
+import argparse
 import os
-import shutil
-import sys
 import textwrap
+
+import generated
 
 HERE = os.path.dirname(os.path.abspath(__file__))
 LANGUAGES = {'fr': 'French', 'uk': 'Ukrainian'}
@@ -30,7 +32,7 @@ def rare(meaning, word):
 # the entries that have a place in the table, by their places; and the others, which found it taken
 def entries_of(language):
     meanings = {}
-    for line in open(os.path.join(HERE, 'meanings_%s.txt' % language), encoding='utf8'):
+    for line in open(os.path.join(HERE, '%s_meanings.txt' % language), encoding='utf8'):
         meaning, *words = line.split()
         for word in words:
             known = meanings.setdefault(key(word), (int(meaning), word))
@@ -54,15 +56,13 @@ def filled(text):
 class Crate:
     def __init__(self, language):
         self.language = language
-        self.name = 'meanings_' + language
-        self.root = os.path.join(HERE, '..', 'crates', self.name)
+        self.name = language + '_meanings'
+        self.files = {}
         self.slots = SLOTS[language]
         self.placed, self.others = entries_of(language)
 
     def write(self, path, text):
-        path = os.path.join(self.root, path)
-        os.makedirs(os.path.dirname(path), exist_ok=True)
-        open(path, 'w', encoding='utf8').write(text)
+        self.files['crates/%s/%s' % (self.name, path)] = text
 
     def specs(self):
         lists = ''
@@ -174,13 +174,21 @@ meaning-spec =
         self.proof('meaning', uses, body, 'a key is found at its place, or among the others')
 
     def generate(self):
-        for folder in ('proofs', 'src'):
-            if os.path.exists(os.path.join(self.root, folder)):
-                shutil.rmtree(os.path.join(self.root, folder))
         self.specs()
         self.source()
         self.proofs()
+        return self
 
 
-for language in sys.argv[1:]:
-    Crate(language).generate()
+def main():
+    parser = argparse.ArgumentParser()
+    parser.add_argument('--check', action='store_true')
+    parser.add_argument('languages', nargs='*', metavar='LANGUAGE')
+    given = parser.parse_args()
+    crates = [Crate(language).generate() for language in given.languages or LANGUAGES]
+    files = {path: text for crate in crates for path, text in crate.files.items()}
+    folders = ['crates/%s/%s' % (crate.name, folder) for crate in crates for folder in ('specs', 'src', 'proofs')]
+    generated.put(files, folders, given.check)
+
+
+main()

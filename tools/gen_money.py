@@ -1,13 +1,19 @@
 #!/usr/bin/env python3
-# gen_money.py SOURCE: writes what crates/money has of the currencies, from SOURCE/lang/uk.rs and SOURCE/currency.rs: the tables of its
-# specs, the code's tables and the proof text that follows them, so that no word is typed twice.
-# Run by hand after a change of these files; what it writes is committed (run `rt fmt` afterwards).
+# gen_money.py [--check]: writes what crates/uk_money has of the currencies from the published Rust's lang/uk.rs and currency.rs, in the
+# layout of `rt fmt`: the tables of its specs, and the code and the proof of the codes. With --check it writes nothing and fails at a difference.
+# The Rust is in YOKEPEAR_SOURCES, or in ../shared/docs beside the checkout. Run by hand after a change of these files; what it writes is committed.
+import argparse
 import os
 import re
-import sys
 
-ROOT = os.path.join(os.path.dirname(os.path.abspath(__file__)), '..', 'crates')
-SOURCE = sys.argv[1]
+import generated
+
+GIVEN = os.environ.get('YOKEPEAR_SOURCES')
+FOLDERS = [GIVEN] if GIVEN else [generated.ROOT.parent / 'shared' / 'docs' / below for below in ('.', 'src')]
+FOUND = [folder for folder in FOLDERS if os.path.isfile(os.path.join(folder, 'src', 'lang', 'uk.rs'))]
+if not FOUND:
+    raise SystemExit('gen_money: the published Rust is not there, set YOKEPEAR_SOURCES to its folder')
+SOURCE = os.path.join(FOUND[0], 'src')
 UK = open(os.path.join(SOURCE, 'lang', 'uk.rs'), encoding='utf8').read()
 CURRENCY = open(os.path.join(SOURCE, 'currency.rs'), encoding='utf8').read()
 
@@ -82,14 +88,11 @@ def feminine(name):
 
 
 PARTS = [(nouns('currencies'), feminine('currency_properties')), (nouns('currency_fraction'), feminine('currency_fraction_properties'))]
-NAMES = open(os.path.join(ROOT, 'bank_money', 'specs', 'Names.antt'), encoding='utf8').read()
-NAMES = re.findall(r'"([^"]*)"', NAMES[NAMES.index('names ='):])
+FILES = {}
 
 
 def write(path, text):
-    path = os.path.join(ROOT, 'money', path)
-    os.makedirs(os.path.dirname(path), exist_ok=True)
-    open(path, 'w', encoding='utf8').write(text)
+    FILES['crates/uk_money/' + path] = text
 
 
 def lines(table, indent='    '):
@@ -131,7 +134,7 @@ use Prim.Native.Nat.{ℕ}
 use Prim.Native.String.{String}
 use mathlib.Core.List.{List, [], _∷_}
 use lib.ListN.{getD}
-use Rattle.money.specs.Nouns.{hard2, soft2, vowel1, hard1, adj, fixed, hryvnia, kopiyka, Name, masculine, feminine, masculine-pair}
+use Rattle.uk_money.specs.Nouns.{hard2, soft2, vowel1, hard1, adj, fixed, hryvnia, kopiyka, Name, masculine, feminine, masculine-pair}
 
 -- a currency: its code, and the names of its main unit and of its fraction
 pub record Currency : Type 0 where
@@ -157,44 +160,6 @@ currencyAt c = getD currencies c noCurrency
 ''' % (out.rstrip()[:-1].rstrip() + ' ∷ []\n'))
 
 
-tables_spec()
-currencies_spec()
-
-
-# the code's tables: the rows of the names, and the endings by class, grammatical number and case
-def row(words, gender):
-    adjective = NAMES.index(words[0][0]) if len(words) == 2 else 0
-    assert len(words) == 1 or words[0][1] == 'adj'
-    stem, cls = words[-1]
-    return [adjective, NAMES.index(stem), NUMBER[cls], gender]
-
-
-ROWS = [[row(words[code], int(code in feminines)) for code in CODES] for words, feminines in PARTS]
-ENDINGS = [[NAMES.index(table[n][c]) if table else 0 for n in range(2) for c in range(6)] for table in TABLES]
-
-
-def const(name, table):
-    return '\npub const %s: [[u8; %d]; %d] = [\n%s];\n' % (name, len(table[0]), len(table), ''.join('    [%s],\n' % ', '.join(map(str, r)) for r in table))
-
-
-def rows_source():
-    write('src/rows.rt', '''// The rows of the names of the main units and of the fractions, by currency: the numbers of the adjective's stem, 0 for none, of the noun's
-// stem, of its class of endings, and the gender. The endings by class, then grammatical number and case.
-''' + const('MAIN', ROWS[0]) + const('FRACTION', ROWS[1]) + const('ENDINGS', ENDINGS))
-
-
-def listed(name, table):
-    return '\nabbrev pub %s : List (List ℕ)\n%s =\n%s    []\n' % (name, name, ''.join('    (%s ∷ []) ∷\n' % ' ∷ '.join(map(str, r)) for r in table))
-
-
-def rows_proof():
-    write('proofs/Tables.antt', '''-- The code's tables as lists.
--- Assumes nothing.
-use Prim.Native.Nat.{ℕ}
-use mathlib.Core.List.{List, [], _∷_}
-''' + listed('mains', ROWS[0]) + listed('fractions', ROWS[1]) + listed('endingIds', ENDINGS))
-
-
 def code_key(code):
     k = 1
     for b in reversed(code.encode()):
@@ -205,8 +170,8 @@ def code_key(code):
 def codes_source():
     write('src/codes.rt', '''// The currency whose code has this number: its place in from_str's order, or 44 for none.
 ghost use mathlib.Core.Path.{_≡_};
-ghost use Rattle.money.specs.Currencies.{currencies};
-ghost use Rattle.money.specs.Rows.{placeByKey};
+ghost use Rattle.uk_money.specs.Currencies.{currencies};
+ghost use Rattle.uk_money.specs.Rows.{placeByKey};
 
 pub fn place(key: u64) -> usize
     ensures { λ r. ⌜ r ≡ placeByKey currencies key ⌝ }
@@ -220,14 +185,14 @@ pub fn place(key: u64) -> usize
 
 def codes_proof():
     arms = ['(λ c. found (c .match .keys%d) refl)' % (i + 1) for i in range(len(CODES))] + ['(λ c. sym (none _ currencies (c .match .rest)))']
-    write('proofs/codes/place/Proof.antt', '''-- `money::codes::place` meets its contract: in the arm of a code's number stands its place.
+    write('proofs/codes/place/Proof.antt', '''-- `uk_money::codes::place` meets its contract: in the arm of a code's number stands its place.
 -- Assumes nothing.
 use mathlib.Core.Path.{refl, sym}
-use Rattle.money.specs.Currencies.{currencies}
-use Rattle.money.specs.Rows.{placeByKey}
-use Rattle.money.proofs.Keys.{found, none}
-use Rattle.money.proofs.codes.place.Statement.{statement}
-use Rattle.money.proofs.codes.place.Tie as tie
+use Rattle.uk_money.specs.Currencies.{currencies}
+use Rattle.uk_money.specs.Rows.{placeByKey}
+use Rattle.uk_money.proofs.Keys.{found, none}
+use Rattle.uk_money.proofs.codes.place.Statement.{statement}
+use Rattle.uk_money.proofs.codes.place.Tie as tie
 
 pub place-spec : {M : Type 1} → statement M
 unfolding currencies placeByKey
@@ -238,7 +203,15 @@ place-spec =
 ''' % '\n    '.join(arms))
 
 
-rows_source()
-rows_proof()
-codes_source()
-codes_proof()
+def main():
+    parser = argparse.ArgumentParser()
+    parser.add_argument('--check', action='store_true')
+    given = parser.parse_args()
+    tables_spec()
+    currencies_spec()
+    codes_source()
+    codes_proof()
+    generated.put(FILES, check=given.check)
+
+
+main()

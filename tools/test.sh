@@ -1,21 +1,45 @@
 #!/usr/bin/env bash
-# The test command: the gate over all crates, then the host's tests and the comparison; ends in the gate's verdict 'N passed, M failed'.
+# The test command: the generated files, the gate over all crates, then the host's tests and the comparison; ends in the verdict 'N passed, M failed'.
+# Where a step fails, what each of them said stays in target-log. It is not in target, which `rt ci` removes.
 set -u
-cd "$(dirname "${BASH_SOURCE[0]}")/.."
-mkdir -p target-log
-trap 'rm -rf target-log' EXIT
+cd "$(dirname "${BASH_SOURCE[0]}")/.." || exit 1
+logs=target-log
+passed=0
+rm -rf "$logs"
+mkdir -p "$logs"
 
+# failed STEP [COUNT]: ends with the verdict, so many of which failed.
+failed() {
+  echo "$1 failed: what it said is in $logs/$1, the steps before it are beside that"
+  echo "$passed passed, ${2:-1} failed"
+  exit 1
+}
+
+# step NAME COMMAND...: runs the command, and keeps what it says.
+step() {
+  local name=$1
+  shift
+  "$@" 2>&1 | tee "$logs/$name"
+  return "${PIPESTATUS[0]}"
+}
+
+# The gate's own numbers go into the verdict; a gate that ends without them has failed.
+gate() {
+  step gate rt ci
+  local status=$? verdict not_passed
+  verdict=$(grep -oE '^[0-9]+ passed, [0-9]+ failed' "$logs/gate" | tail -n 1)
+  read -r passed _ not_passed _ <<< "${verdict:-0 passed, 1 failed}"
+  [ "$status" -eq 0 ] && [ "$not_passed" -eq 0 ] && return
+  failed gate $((not_passed > 0 ? not_passed : 1))
+}
+
+step words python3 tools/gen_words.py --check || failed words
+step meanings python3 tools/gen_meanings.py --check || failed meanings
 # rt waits for all of a batch before it starts the next: with two to a processor a long check does not leave one idle (each takes up to 1.4 GB).
 export RT_JOBS=${RT_JOBS:-$((2 * $(nproc)))}
-rt ci 2>&1 | tee target-log/ci
-status=${PIPESTATUS[0]}
-verdict=$(grep -E '^[0-9]+ passed, [0-9]+ failed' target-log/ci | tail -n 1)
-if [ "$status" -ne 0 ]; then
-  echo "${verdict:-0 passed, 1 failed}"
-  exit 1
-fi
-
-rt staticlib yokepear > target-log/lib 2>&1 || { cat target-log/lib; echo '0 passed, 1 failed'; exit 1; }
-host/test.sh || { echo '0 passed, 1 failed'; exit 1; }
-compare/run.sh || { echo '0 passed, 1 failed'; exit 1; }
-echo "$verdict"
+gate
+step library rt staticlib yokepear || failed library
+step host host/test.sh || failed host
+step comparison compare/run.sh || failed comparison
+rm -rf "$logs"
+echo "$passed passed, 0 failed"

@@ -3,7 +3,6 @@
 use Prim.Native.Nat.{ℕ, zero, suc}
 use mathlib.Core.Path.{_≡_, refl}
 use mathlib.Core.List.{List}
-use native.Mathlib.Omega.{arith}
 use Rattle.base.specs.Answer.{refused, fitted, replied, Answers}
 use Rattle.base.specs.declared.Answer.{Answer}
 

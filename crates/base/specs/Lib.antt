@@ -1,8 +1,6 @@
 pub mod Utf8
-pub mod Bank
 pub mod Front
 pub mod Same
-pub mod Four
 pub mod Buffer
 pub mod Join
 pub mod Decides

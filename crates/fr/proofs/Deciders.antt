@@ -14,9 +14,6 @@ pub lowest-not : (k : ℕ) → (k ≡ 0 → ⊥) → isLowest k ≡ false
 lowest-not zero n = absurd (n refl)
 lowest-not (suc k) n = refl
 
-pub mille-is : (k : ℕ) → k ≡ 1 → isMille k ≡ true
-mille-is k e = rw e refl
-
 pub mille-not : (k : ℕ) → (k ≡ 1 → ⊥) → isMille k ≡ false
 mille-not zero n = refl
 mille-not (suc zero) n = absurd (n refl)

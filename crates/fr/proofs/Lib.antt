@@ -1,4 +1,5 @@
 pub mod Tests
+pub mod Listed
 pub mod Tables
 pub mod Stems
 pub mod Deciders

@@ -1,17 +1,20 @@
 -- Tests that antt computes over numbers and texts, and what each says at one place.
 -- Assumes nothing.
-use Prim.Native.Nat.{ℕ, _+_, _<_, _≤_}
+use Prim.Native.Nat.{ℕ, _+_, _%_, _<_, _≤_}
 use mathlib.Core.Path.{_≡_, refl}
-use mathlib.Core.Bool.{Bool, true, false, not, _&&_}
-use mathlib.Core.List.{List}
-use borrow.Author.Tests.{eqb-false, ltb-true, not-true}
+use mathlib.Core.Bool.{Bool, true, false, _&&_}
+use mathlib.Core.List.{List, _++_}
+use borrow.Author.Tests.{eqb-true, ltb-true}
 use lib.Dec.{T, eqb, ltb}
+use lib.ListN.{length}
 use Rattle.base.specs.Join.{Word}
 use Rattle.base.specs.Same.{sameText}
+use Rattle.base.specs.Utf8.{utf8}
 use Rattle.base.proofs.Same.{same-is}
 use Rattle.tables.proofs.Tests.{clash-of, all, all-at as all-true}
-use Rattle.words.specs.Text.{text}
-use Rattle.fr.specs.Numbered.{Known, Numbered}
+use Rattle.words.specs.Part.{part}
+use Rattle.fr.specs.Pool.{frPool}
+use Rattle.fr.specs.Placed.{Known, Placed, Plural}
 
 pub yes-of : (b : Bool) → T b → b ≡ true
 yes-of true t = refl
@@ -45,26 +48,31 @@ both-at f t false = and-right (f true) (f false) t
 pub same-eq : (w s : List ℕ) → T (sameText w s) → w ≡ s
 same-eq w s t = same-is w s (yes-of (sameText w s) t)
 
-pub below-of : (a b : ℕ) → T (ltb a b) → a < b
-below-of a b t = ltb-true a b (yes-of (ltb a b) t)
+-- the place of a text
+abbrev known? : ℕ → Bool
+known? p = ltb 0 (p % 40) && eqb (length (part frPool p)) (p % 40)
 
--- the number of this word
-abbrev pub known? : ℕ → Bool
-known? id = ltb 256 id && (ltb id 405 && not (eqb id 389))
+known : (p : ℕ) → T (known? p) → Known p
+known p t =
+    let a = ltb 0 (p % 40) in
+    let b = eqb (length (part frPool p)) (p % 40) in
+    record { some = ltb-true _ _ (yes-of a (and-left a b t)); whole = eqb-true _ _ (yes-of b (and-right a b t)) }
 
-known : (id : ℕ) → T (known? id) → Known id
-known id t =
-    let r = and-right (ltb 256 id) (ltb id 405 && not (eqb id 389)) t in (
-      below-of 256 id (and-left (ltb 256 id) (ltb id 405 && not (eqb id 389)) t),
-      below-of id 405 (and-left (ltb id 405) (not (eqb id 389)) r),
-      eqb-false id 389 (not-true (eqb id 389) (yes-of (not (eqb id 389)) (and-right (ltb id 405) (not (eqb id 389)) r))),
-    )
+-- the place of this word, and of its plural
+abbrev pub placed? : ℕ → Word → Bool
+placed? p w = sameText (part frPool p) w && known? p
 
-abbrev pub numbered? : ℕ → Word → Bool
-numbered? id w = sameText (text id) w && known? id
+pub placed : (p : ℕ) (w : Word) → T (placed? p w) → Placed p w
+placed p w t = record {
+  says = same-eq (part frPool p) w (and-left (sameText (part frPool p) w) (known? p) t);
+  known = known p (and-right (sameText (part frPool p) w) (known? p) t);
+}
 
-pub numbered : (id : ℕ) (w : Word) → T (numbered? id w) → Numbered id w
-numbered id w t = record {
-  says = same-eq (text id) w (and-left (sameText (text id) w) (known? id) t);
-  known = known id (and-right (sameText (text id) w) (known? id) t);
+abbrev pub plural? : ℕ → Word → Bool
+plural? p w = placed? p w && placed? (p + 1) (w ++ utf8 "s")
+
+pub plural : (p : ℕ) (w : Word) → T (plural? p w) → Plural p w
+plural p w t = record {
+  one = placed p w (and-left (placed? p w) (placed? (p + 1) (w ++ utf8 "s")) t);
+  more = placed (p + 1) (w ++ utf8 "s") (and-right (placed? p w) (placed? (p + 1) (w ++ utf8 "s")) t);
 }

@@ -1,6 +1,8 @@
+pub mod Settings
 pub mod FrTables
 pub mod Rules
 pub mod Cardinal
 pub mod Ordinal
 pub mod Grammar
-pub mod Numbered
+pub mod Pool
+pub mod Placed

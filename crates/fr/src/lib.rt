@@ -1,16 +1,25 @@
-// The French words and rules that speller and reader share: the numbers of the words, and the tests of document 01's rules.
+// The French words and rules that speller and reader share: the places of the words, and the tests of document 01's rules.
+mod places; // places.rt: the tables of words, with the place of each
+mod pool; // pool.rt: the texts
+
+use base::Answer;
 ghost use mathlib.Core.Path.{_≡_};
 ghost use mathlib.Core.Bool.{false, cond, not, _&&_, _||_};
 ghost use mathlib.Core.List.{[], _∷_, _++_};
-ghost use Prim.Native.Nat.{_+_, _-_, _≤_, _<_};
+ghost use Prim.Native.Nat.{_-_, _*_, _≤_, _<_};
 ghost use lib.Dec.{eqb};
 ghost use lib.ListN.{length};
 ghost use Rattle.base.specs.Utf8.{utf8, form1};
-ghost use Rattle.words.specs.Text.{text};
+ghost use Rattle.base.specs.Answer.{fitted, Answers};
+ghost use Rattle.base.specs.Decides.{Decides};
+ghost use Rattle.words.specs.Part.{part};
+ghost use Rattle.plan.specs.Phrase.{phrase};
+ghost use Rattle.plan.specs.Plan.{pieces, says};
+ghost use Rattle.fr.specs.Pool.{frPool};
 ghost use Rattle.fr.specs.FrTables.{units, teens, megas};
-ghost use Rattle.fr.specs.Rules.{isReformed, isMille, joiner as joinerOf, centWord, countsOn, fourTwenties, takesEt, isUne, unitWord, tenWord, roundWord};
+ghost use Rattle.fr.specs.Rules.{isMille, joiner as joinerOf, centWord, countsOn, fourTwenties, takesEt, isUne, unitWord, tenWord, roundWord};
 ghost use Rattle.fr.specs.Ordinal.{withoutE};
-ghost use Rattle.fr.specs.Numbered.{Known, Numbered};
+ghost use Rattle.fr.specs.Placed.{Known, Placed, Plural};
 
 // The settings: feminine 0 or 1, reformed 0 or 1, region 0 FR, 1 BE, 2 CH.
 pub struct French {
@@ -19,19 +28,49 @@ pub struct French {
     pub region: u32,
 }
 
-// The number of the n-th French word among all. The words stand in the bank in the order of what they count, so that a digit gives the number.
-fn word(n: usize) -> u16
-    requires { ⌜ n < 256 ⌝ }
-    ensures { λ r. ⌜ r ≡ 256 + n ⌝ }
+// The places of the words that stand in no table.
+pub const ZERO: u16 = places::ZERO;
+
+pub const MOINS: u16 = places::MOINS;
+
+pub const CENT: u16 = places::CENT;
+
+pub const ET: u16 = places::ET;
+
+pub const PREMIER: u16 = places::PREMIER;
+
+pub const IEME: u16 = places::IEME;
+
+// The texts. An array is made on the stack where it is used, so that it is made once a call and lent on.
+pub fn texts() -> [u8; 716]
+    ensures { λ r. ⌜ r ≡ frPool ⌝ }
 {
-    256 + n as u16
+    pool::POOL
+}
+
+// Answers with what the first n pieces of a plan say.
+pub fn speak(plan: &[u32], n: usize, out: &mut [u8]) -> Answer
+    requires { ⌜ (n ≤ length (now plan)) × (n ≤ 1000) ⌝ }
+    ensures { λ r. ⌜ Answers r (now (out .entry)) (now (out .exit)) (fitted (now (out .entry)) (phrase (says frPool (now (plan .entry)) n))) ⌝ }
+    ensures { λ r. ⌜ r .length ≤ 40 * n ⌝ }
+{
+    let lent = texts();
+    plan::speak(&lent, plan, n, out)
+}
+
+// Whether s is the phrase of a plan.
+pub fn stands(plan: &[u32], s: &[u8]) -> bool
+    ensures { λ r. ⌜ Decides r (phrase (pieces frPool (now (plan .entry))) ≡ now (s .entry)) ⌝ }
+{
+    let lent = texts();
+    plan::stands(&lent, plan, s)
 }
 
 // The byte that joins words.
 pub fn joiner(f: French) -> u8
     ensures { λ r. ⌜ r ≡ joinerOf f ⌝ }
 {
-    if f.reformed == 1 { 45 } else { 32 }
+    if f.reformed == 1 { b'-' } else { b' ' }
 }
 
 // Whether a unit at this order is `une`.
@@ -80,43 +119,43 @@ pub fn takes_et(f: French, t: usize, u: usize) -> bool
 // The word of a unit.
 pub fn unit(f: French, order: usize, u: usize) -> u16
     requires { ⌜ (0 < u) × (u < 10) ⌝ }
-    ensures { λ r. ⌜ Numbered r (unitWord f order u) ⌝ }
+    ensures { λ r. ⌜ Placed r (unitWord f order u) ⌝ }
 {
     if is_une(f, order, u) {
-        return word(12);
+        return places::UNE;
     }
-    word(2 + u)
+    places::UNITS[u]
 }
 
 // The word of a teen.
 pub fn teen(u: usize) -> u16
     requires { ⌜ u < 10 ⌝ }
-    ensures { λ r. ⌜ Numbered r (form1 teens u) ⌝ }
+    ensures { λ r. ⌜ Placed r (form1 teens u) ⌝ }
 {
-    word(13 + u)
+    places::TEENS[u]
 }
 
 // The word of a tens digit.
 pub fn ten(f: French, t: usize) -> u16
     requires { ⌜ (1 < t) × (t < 10) × (f .region < 3) × (countsOn f t ≡ false) ⌝ }
-    ensures { λ r. ⌜ Numbered r (tenWord f t) ⌝ }
+    ensures { λ r. ⌜ Placed r (tenWord f t) ⌝ }
 {
     if four_twenties(f, t) {
-        return word(32);
+        return places::QUATRE_VINGT;
     }
-    word(21 + t)
+    places::TENS[t]
 }
 
 // The word of a tens digit that no unit follows.
 pub fn round(f: French, order: usize, t: usize) -> u16
     requires { ⌜ (1 < t) × (t < 10) × (f .region < 3) × (countsOn f t ≡ false) ⌝ }
-    ensures { λ r. ⌜ Numbered r (roundWord f order t) ⌝ }
+    ensures { λ r. ⌜ Placed r (roundWord f order t) ⌝ }
 {
     if order == 1 {
         return ten(f, t);
     }
     if four_twenties(f, t) {
-        return word(33);
+        return places::QUATRE_VINGT + 1;
     }
     ten(f, t)
 }
@@ -128,61 +167,56 @@ fn takes_s(order: usize, below: usize) -> bool
     if below == 0 { order != 1 } else { false }
 }
 
-// The unit and `cent` or `cents` of a hundreds digit above 1, which the bank has as one text.
+// The unit and `cent` of a hundreds digit above 1, which are one text.
+fn hundred(f: French, h: usize) -> u16
+    requires { ⌜ (1 < h) × (h < 10) ⌝ }
+    ensures { λ r. ⌜ Plural r (form1 units (h - 1) ++ (joinerOf f ∷ utf8 "cent")) ⌝ }
+{
+    if f.reformed == 1 {
+        return places::HUNDREDS[1][h];
+    }
+    places::HUNDREDS[0][h]
+}
+
+// The unit and `cent` or `cents`: the plural is the same part of the pool with one byte more.
 pub fn hundreds(f: French, order: usize, h: usize, below: usize) -> u16
     requires { ⌜ (1 < h) × (h < 10) ⌝ }
-    ensures { λ r. ⌜ Numbered r (form1 units (h - 1) ++ (joinerOf f ∷ centWord order below)) ⌝ }
+    ensures { λ r. ⌜ Placed r (form1 units (h - 1) ++ (joinerOf f ∷ centWord order below)) ⌝ }
 {
-    let n = first_hundred(f) + 2 * h;
+    let p = hundred(f, h);
     if takes_s(order, below) {
-        return word(n + 1);
+        return p + 1;
     }
-    word(n)
+    p
 }
 
-// From where the hundreds with this joiner are counted in the bank: two texts for each digit, from 2 on.
-fn first_hundred(f: French) -> usize
-    ensures { λ r. ⌜ (r ≡ cond (isReformed f) 112 96) × (r ≤ 112) ⌝ }
-{
-    if f.reformed == 1 { 112 } else { 96 }
-}
-
-// The scale word of an order above 0, with its `s` where it takes one. `mille` has one text in the bank, every other word two.
+// The scale word of an order above 0, with its `s` where it takes one, which is one byte more.
 pub fn scale(order: usize, g: usize) -> u16
     requires { ⌜ (0 < order) × (order < 34) ⌝ }
-    ensures { λ r. ⌜ Numbered r (form1 megas (order - 1) ++ cond (isMille order || eqb g 1) [] (utf8 "s")) ⌝ }
+    ensures { λ r. ⌜ Placed r (form1 megas (order - 1) ++ cond (isMille order || eqb g 1) [] (utf8 "s")) ⌝ }
 {
+    let p = places::MEGAS[order];
     if order == 1 {
-        return word(35);
+        return p;
     }
     if g == 1 {
-        return word(32 + 2 * order);
+        return p;
     }
-    word(33 + 2 * order)
+    p + 1
 }
 
-// A word without its final `e`: the arms are the words that end in one, each with the text that the bank has for it without.
-pub fn stem(id: u16) -> u16
-    requires { ⌜ Known id ⌝ }
-    ensures { λ r. ⌜ Numbered r (withoutE (text id)) × (0 < length (text id)) ⌝ }
+// A text without its final `e`, which is one byte less.
+pub fn stem(lent: &[u8], place: u16) -> u16
+    requires { ⌜ (now lent ≡ frPool) × Known place ⌝ }
+    ensures { λ r. ⌜ (part frPool r ≡ withoutE (part frPool place)) × (0 < length (part frPool place)) ⌝ }
 {
-    match id {
-        262 => 390,
-        268 => 259,
-        270 => 391,
-        271 => 392,
-        272 => 393,
-        273 => 394,
-        274 => 395,
-        275 => 396,
-        280 => 397,
-        281 => 398,
-        282 => 399,
-        283 => 400,
-        284 => 401,
-        285 => 402,
-        286 => 403,
-        291 => 404,
-        _ => id,
+    let w = words::part(lent, place as u32);
+    let n = w.len();
+    if n == 0 {
+        return place;
     }
+    if w[n - 1] == b'e' {
+        return place - 1;
+    }
+    place
 }

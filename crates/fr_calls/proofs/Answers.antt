@@ -1,24 +1,29 @@
 -- The calls' answers against their definitions.
 -- Assumes nothing.
-use Prim.Native.Nat.{ℕ, _^_, _<_, _≤_}
+use Prim.Native.Nat.{ℕ, _+_, _/_, _^_, _<_, _≤_}
 use mathlib.Core.Path.{_≡_, refl, sym, _∙_}
-use mathlib.Core.Bool.{Bool, true, false}
+use mathlib.Core.Bool.{Bool, true, false, cond}
 use mathlib.Core.List.{List}
+use native.Mathlib.Omega.{arith}
 use borrow.Author.Tests.{lt-ltb, le-ltb}
 use lib.Dec.{ltb, eqb}
+use lib.ListN.{length}
 use Rattle.tables.proofs.Tests.{clash-of as clash}
-use Rattle.base.specs.Answer.{refused, fitted, replied, Answers, Reads, ReadsUnless}
+use Rattle.base.specs.Answer.{refused, fitted, Answers, Reads, ReadsUnless}
 use Rattle.base.specs.declared.Answer.{Answer}
-use Rattle.base.proofs.Replies.{refusal, refusal-some}
-use Rattle.figures.specs.Text.{value, negative, unsigned, signedText}
+use Rattle.figures.specs.Text.{value, wellFormed, negative, unsigned, signedText}
 use Rattle.figures.specs.Groups.{groupsOf, total}
 use Rattle.figures.proofs.Laws.Groups.{groups-length, groups-below, total-groups}
+use Rattle.figures.proofs.Laws.Sign.{formed-unsigned}
+use Rattle.groups.specs.Highest.{Highest}
+use Rattle.groups.proofs.Highest.{counted}
 use Rattle.plan.specs.Phrase.{phrase}
 use Rattle.plan.specs.Plan.{says}
+use Rattle.fr.specs.Pool.{frPool}
 use Rattle.fr.specs.Cardinal.{cardinalPhrase}
 use Rattle.fr.specs.Ordinal.{ordinalPhrase}
 use Rattle.fr.specs.declared.French.{French}
-use Rattle.fr_plan.specs.Top.{Groups34}
+use Rattle.fr_plan.specs.Groups34.{Groups34}
 use Rattle.fr_read.specs.Promise.{ReadNth}
 use Rattle.fr_calls.specs.Calls.{inRange, firstRefusal, settingsRefusal, cardinalOf, ordinalOf, OrdinalMeans}
 
@@ -33,31 +38,43 @@ module _ (F : French) where
   pub feminine-out : 2 ≤ F .feminine → false ≡ inRange F
   feminine-out a = rw (le-ltb (F .feminine) 2 a) refl
 
--- refusals
-pub refuses-text : (F : French) (xs b : List ℕ) (n m : ℕ) → inRange F ≡ true → n ≡ m → (n ≡ 0 → ⊥)
-    → Answers (record { number = n; length = 0 }) xs xs (replied (firstRefusal F m) b xs)
-refuses-text F xs b n m t e z = rw t (refusal-some xs b n m e z)
+-- the first refusal of a spelling call, and where there is none
+module _ (F : French) (m : ℕ) where
+  pub text-first : inRange F ≡ true → m ≡ firstRefusal F m
+  text-first t = rw t refl
 
-pub refuses-settings : (F : French) (xs b : List ℕ) (m : ℕ) → inRange F ≡ false → Answers (record { number = 1; length = 0 }) xs xs (replied (firstRefusal F m) b xs)
-refuses-settings F xs b m t = rw t (refusal xs 1)
+  pub settings-first : inRange F ≡ false → 1 ≡ firstRefusal F m
+  settings-first t = rw t refl
 
-pub answers-text : (F : French) (r : Answer) (xs ys b : List ℕ) (m : ℕ) → inRange F ≡ true → m ≡ 0 → Answers r xs ys (fitted xs b)
-    → Answers r xs ys (replied (firstRefusal F m) b xs)
-answers-text F r xs ys b m t e a = rw (t, e) a
+  pub none-first : (n : ℕ) → n ≡ firstRefusal F m → n ≡ 0 → (inRange F ≡ true) × (m ≡ 0)
+  none-first n e z = go (inRange F) refl (sym e ∙ z)
+    where
+      go : (t : Bool) → inRange F ≡ t → cond t m 1 ≡ 0 → (inRange F ≡ true) × (m ≡ 0)
+      go true q f = (q, f)
+      go false q f = absurd (omega arith)
 
 -- the plan says the text's phrase
 pub planned-cardinal : (F : French) (xs us plan gs : List ℕ) (z m : Bool) (n : ℕ) → z ≡ eqb (value (unsigned xs)) 0 → m ≡ negative xs → us ≡ unsigned xs
-    → gs ≡ groupsOf 34 (value us) → phrase (says plan n) ≡ cardinalPhrase F z m gs → phrase (says plan n) ≡ cardinalOf F xs
+    → gs ≡ groupsOf 34 (value us) → phrase (says frPool plan n) ≡ cardinalPhrase F z m gs → phrase (says frPool plan n) ≡ cardinalOf F xs
 unfolding cardinalOf
 planned-cardinal F xs us plan gs z m n ez em eu eg e = e ∙ rw (ez, em, eg, eu) refl
 
 pub planned-ordinal : (F : French) (xs us plan gs : List ℕ) (n : ℕ) → value (unsigned xs) < 1000 ^ 34 → us ≡ unsigned xs → gs ≡ groupsOf 34 (value us)
-    → phrase (says plan n) ≡ ordinalPhrase F (eqb (total gs) 0) (eqb (total gs) 1) gs → phrase (says plan n) ≡ ordinalOf F xs
+    → phrase (says frPool plan n) ≡ ordinalPhrase F (eqb (total gs) 0) (eqb (total gs) 1) gs → phrase (says frPool plan n) ≡ ordinalOf F xs
 unfolding ordinalOf
 planned-ordinal F xs us plan gs n h eu eg e = e ∙ rw (eg, eu, total-groups 34 (value (unsigned xs)) h) refl
 
 pub text-groups : (gs : List ℕ) (x : ℕ) → gs ≡ groupsOf 34 x → Groups34 gs
 text-groups gs x e = rw e (groups-length 34 x, groups-below 34 x)
+
+-- the digits of an admitted text tell the orders of its groups
+pub text-orders : (xs us gs : List ℕ) (n : ℕ) → wellFormed xs ≡ true → length (unsigned xs) ≤ 102 → us ≡ unsigned xs → gs ≡ groupsOf 34 (value us)
+    → n ≡ (length us + 2) / 3 → Highest gs n
+text-orders xs us gs n f l eu eg en = rw (en, eg, eu) (counted (unsigned xs) (formed-unsigned xs f) 34 (omega arith))
+
+-- a refusal's answer
+pub refuses : (r : Answer) (xs : List ℕ) (n : ℕ) → (r .number ≡ n) × (r .length ≡ 0) → Answers r xs xs (refused n 0)
+refuses r xs n a = record { number = a .0; length = a .1; buffer = refl }
 
 -- the promise of the reader of ordinals, for each of its answers
 module _ (F : French) (s gs xs ys : List ℕ) (r : Answer) where

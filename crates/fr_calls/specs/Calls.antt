@@ -14,11 +14,7 @@ use Rattle.fr.specs.Ordinal.{ordinalPhrase}
 use Rattle.fr.specs.Grammar.{Says, SaysNth}
 use Rattle.fr.specs.declared.French.{French}
 
--- the settings of these numbers
-abbrev pub french : ℕ → ℕ → ℕ → French
-french feminine reformed region = record { feminine = feminine; reformed = reformed; region = region }
-
--- each is in its range (01, "From the repository, and added")
+-- each setting is in its range (01, "From the repository, and added")
 abbrev pub inRange : French → Bool
 inRange F = ltb (F .feminine) 2 && (ltb (F .reformed) 2 && ltb (F .region) 3)
 

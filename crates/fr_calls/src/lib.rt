@@ -1,14 +1,26 @@
 // French cardinals and ordinals from bytes to bytes, both ways.
 use base::Answer;
 use fr::French;
+use fr_plan::ORDERS;
+use fr_plan::PLAN;
 ghost use mathlib.Core.Path.{_≡_};
 ghost use mathlib.Core.Bool.{true};
 ghost use Prim.Native.Nat.{_≤_};
 ghost use lib.ListN.{length};
 ghost use Rattle.base.specs.Answer.{fitted, replied, Answers, Reads, ReadsUnless};
 ghost use Rattle.figures.specs.Text.{wellFormed, unsigned};
+ghost use Rattle.figures.specs.Refusals.{judgeDigits, refusalOf};
 ghost use Rattle.fr.specs.Rules.{InRange};
-ghost use Rattle.fr_calls.specs.Calls.{french, inRange, settingsRefusal, cardinalRefusal, ordinalRefusal, firstRefusal, cardinalOf, ordinalOf, CardinalMeans, OrdinalMeans};
+ghost use Rattle.fr.specs.Settings.{french};
+ghost use Rattle.fr_calls.specs.Calls.{inRange, settingsRefusal, cardinalRefusal, ordinalRefusal, firstRefusal, cardinalOf, ordinalOf, CardinalMeans, OrdinalMeans};
+
+// The most digits that a number text has: three for each group.
+const DIGITS: usize = 102;
+
+// The refusals of settings out of their ranges, and of bytes that are no phrase.
+const SETTINGS: u32 = 1;
+
+const NO_PHRASE: u32 = 6;
 
 // Whether the setting numbers are in their ranges.
 pub fn in_range(f: French) -> bool
@@ -21,6 +33,17 @@ pub fn in_range(f: French) -> bool
     }
 }
 
+// The refusals of a spelling call but 7, or 0.
+fn refusal(f: French, text: &[u8], signed: bool) -> u32
+    ensures { λ r. ⌜ r ≡ firstRefusal f (refusalOf (judgeDigits signed 102 (now (text .entry)))) ⌝ }
+{
+    if in_range(f) {
+        figures::refusals::number_of(figures::refusals::judge(text, signed, DIGITS))
+    } else {
+        SETTINGS
+    }
+}
+
 // The cardinal of an admitted text.
 fn spell_cardinal(f: French, text: &[u8], out: &mut [u8]) -> Answer
     requires { ⌜ InRange f × (wellFormed (now text) ≡ true) × (length (unsigned (now text)) ≤ 102) ⌝ }
@@ -29,22 +52,27 @@ fn spell_cardinal(f: French, text: &[u8], out: &mut [u8]) -> Answer
 {
     let zero = figures::is_zero(text);
     let minus = figures::is_negative(text);
-    let gs = groups::groups34(figures::after_sign(text));
-    let mut plan = [0u32; 308];
-    let n = fr_plan::plan_cardinal(f, zero, minus, &gs, &mut plan);
-    plan::speak(&plan, n, out)
+    let digits = figures::after_sign(text);
+    let gs = groups::groups34(digits);
+    let orders = groups::count(digits);
+    let mut plan = [0u32; PLAN];
+    let n = fr_plan::plan_cardinal(f, zero, minus, orders, &gs, &mut plan);
+    fr::speak(&plan, n, out)
 }
 
-// The ordinal of an admitted text.
+// The ordinal of an admitted text. The texts are made once, for the plan and for its phrase.
 fn spell_ordinal(f: French, text: &[u8], out: &mut [u8]) -> Answer
     requires { ⌜ InRange f × (wellFormed (now text) ≡ true) × (length (unsigned (now text)) ≤ 102) ⌝ }
     ensures { λ r. ⌜ Answers r (now (out .entry)) (now (out .exit)) (fitted (now (out .entry)) (ordinalOf f (now (text .entry)))) ⌝ }
     ensures { λ r. ⌜ r .length ≤ 12320 ⌝ }
 {
-    let gs = groups::groups34(figures::after_sign(text));
-    let mut plan = [0u32; 308];
-    let n = fr_plan::plan_ordinal(f, &gs, &mut plan);
-    plan::speak(&plan, n, out)
+    let lent = fr::texts();
+    let digits = figures::after_sign(text);
+    let gs = groups::groups34(digits);
+    let orders = groups::count(digits);
+    let mut plan = [0u32; PLAN];
+    let n = fr_plan::plan_ordinal(&lent, f, orders, &gs, &mut plan);
+    plan::speak(&lent, &plan, n, out)
 }
 
 // Any bytes, read as a cardinal.
@@ -52,7 +80,7 @@ fn read_cardinal(f: French, said: &[u8], out: &mut [u8]) -> Answer
     requires { ⌜ InRange f ⌝ }
     ensures { λ r. ⌜ Reads (CardinalMeans f) (now (said .entry)) r (now (out .entry)) (now (out .exit)) ⌝ }
 {
-    let mut gs = [0u16; 34];
+    let mut gs = [0u16; ORDERS];
     let seen = fr_read::read_cardinal(f, said, &mut gs);
     numerals::put_seen(seen, &gs, out)
 }
@@ -62,14 +90,11 @@ fn read_ordinal(f: French, said: &[u8], out: &mut [u8]) -> Answer
     requires { ⌜ InRange f ⌝ }
     ensures { λ r. ⌜ Reads (OrdinalMeans f) (now (said .entry)) r (now (out .entry)) (now (out .exit)) ⌝ }
 {
-    let mut gs = [0u16; 34];
+    let mut gs = [0u16; ORDERS];
     if fr_read::read_ordinal(f, said, &mut gs) {
         numerals::put_number(false, &gs, out)
     } else {
-        Answer {
-            number: 6,
-            length: 0,
-        }
+        base::refused(NO_PHRASE)
     }
 }
 
@@ -83,21 +108,11 @@ pub fn to_cardinal(feminine: u32, reformed: u32, region: u32, text: &[u8], out: 
         reformed,
         region,
     };
-    if in_range(f) {
-        let n = figures::refusals::number_of(figures::refusals::judge(text, true, 102));
-        if n == 0 {
-            spell_cardinal(f, text, out)
-        } else {
-            Answer {
-                number: n,
-                length: 0,
-            }
-        }
+    let n = refusal(f, text, true);
+    if n == 0 {
+        spell_cardinal(f, text, out)
     } else {
-        Answer {
-            number: 1,
-            length: 0,
-        }
+        base::refused(n)
     }
 }
 
@@ -111,21 +126,11 @@ pub fn to_ordinal(feminine: u32, reformed: u32, region: u32, text: &[u8], out: &
         reformed,
         region,
     };
-    if in_range(f) {
-        let n = figures::refusals::number_of(figures::refusals::judge(text, false, 102));
-        if n == 0 {
-            spell_ordinal(f, text, out)
-        } else {
-            Answer {
-                number: n,
-                length: 0,
-            }
-        }
+    let n = refusal(f, text, false);
+    if n == 0 {
+        spell_ordinal(f, text, out)
     } else {
-        Answer {
-            number: 1,
-            length: 0,
-        }
+        base::refused(n)
     }
 }
 
@@ -147,10 +152,7 @@ pub fn from_cardinal(
     if in_range(f) {
         read_cardinal(f, said, out)
     } else {
-        Answer {
-            number: 1,
-            length: 0,
-        }
+        base::refused(SETTINGS)
     }
 }
 
@@ -172,9 +174,6 @@ pub fn from_ordinal(
     if in_range(f) {
         read_ordinal(f, said, out)
     } else {
-        Answer {
-            number: 1,
-            length: 0,
-        }
+        base::refused(SETTINGS)
     }
 }

@@ -7,14 +7,15 @@ use native.Mathlib.Omega.{arith}
 use lib.ListN.{length, getD, take}
 use lib.Seq.{take-suc, getD-take, length-take-le}
 use Rattle.base.specs.Utf8.{utf8}
-use Rattle.words.specs.Text.{text}
+use Rattle.words.specs.Part.{part}
 use Rattle.plan.specs.Phrase.{Piece, gap, following, phrase}
 use Rattle.plan.specs.Plan.{pieceOf, pieces, says}
 use Rattle.plan.proofs.Laws.{following-append}
 use Rattle.fr.specs.Ordinal.{withoutE, nth}
-use Rattle.fr.specs.Numbered.{Known, Numbered}
+use Rattle.fr.specs.Pool.{frPool}
+use Rattle.fr.specs.Placed.{Known}
 use Rattle.fr.proofs.Stems.{drop-last}
-use Rattle.fr_plan.specs.Told.{Pushed, AllKnown, Told}
+use Rattle.fr_plan.specs.Appended.{Pushed, AllKnown, Appended}
 
 -- a phrase's last piece
 snoc : (ps : List Piece) (s : ℕ) (w : List ℕ) → phrase (ps ++ ((s, w) ∷ [])) ≡ phrase (ps ++ ((s, []) ∷ [])) ++ w
@@ -43,12 +44,12 @@ known-at [] i k h = absurd (omega arith)
 known-at (c ∷ cs) zero k h = k .0
 known-at (c ∷ cs) (suc i) k h = known-at cs i (k .1) (omega arith)
 
-module _ {k n : ℕ} {xs ys b : List ℕ} (t : Told k xs 0 ys n b) where
+module _ {k n : ℕ} {xs ys b : List ℕ} (t : Appended k xs 0 ys n b) where
   pub some-codes : 0 < length b → 0 < n
   unfolding following pieces
   some-codes h = go n (t .codes) (t .more) (t .speaks)
     where
-      go : (n : ℕ) (cs : List ℕ) → take n ys ≡ cs → following (pieces cs) ≡ b → 0 < n
+      go : (n : ℕ) (cs : List ℕ) → take n ys ≡ cs → following (pieces frPool cs) ≡ b → 0 < n
       go (suc n) cs e f = omega arith
       go zero [] e f = absurd (omega (arith, ap length f))
       go zero (c ∷ cs) e f = absurd (omega (arith, ap length e))
@@ -65,17 +66,19 @@ module _ {k n : ℕ} {xs ys b : List ℕ} (t : Told k xs 0 ys n b) where
         rw g at (known-at (t .codes) (n - 1) (t .known) m)
 
     -- the stem in its place, and the ending behind it
-    module _ {a r stem : ℕ} {zs vs : List ℕ} (p : Pushed ys (n - 1) zs a (getD ys (n - 1) 0 % 256) stem) (q : Pushed zs a vs r 0 389) where
-      pub ended : Numbered stem (withoutE (text (getD ys (n - 1) 0 / 256))) → 0 < length (text (getD ys (n - 1) 0 / 256)) → text 389 ≡ utf8 "ième"
-          → phrase (says vs r) ≡ nth (phrase (says ys n))
+    module _ {a r stem e : ℕ} {zs vs : List ℕ} (p : Pushed ys (n - 1) zs a (getD ys (n - 1) 0 % 256) stem) (q : Pushed zs a vs r 0 e) where
+      pub ended : part frPool stem ≡ withoutE (part frPool (getD ys (n - 1) 0 / 256)) → 0 < length (part frPool (getD ys (n - 1) 0 / 256)) → part frPool e ≡ utf8 "ième"
+          → phrase (says frPool vs r) ≡ nth (phrase (says frPool ys n))
       unfolding says pieces pieceOf
       ended d w i =
           let c = getD ys (n - 1) 0 in
           let s = c % 256 in
           let x : (stem * 256 + s) % 256 ≡ s = omega arith in
           let y : (stem * 256 + s) / 256 ≡ stem = omega arith in
-          let f : take r vs ≡ (take (n - 1) ys ++ ((stem * 256 + s) ∷ [])) ++ ((389 * 256 + 0) ∷ []) = q .more ∙ ap (λ (l : List ℕ). l ++ ((389 * 256 + 0) ∷ [])) (p .more) in
-          ap (λ (l : List ℕ). phrase (map pieceOf l)) f
-          ∙ rw (map-append pieceOf (take (n - 1) ys ++ ((stem * 256 + s) ∷ [])) ((389 * 256 + 0) ∷ []), map-append pieceOf (take (n - 1) ys) ((stem * 256 + s) ∷ []), x, y, d .says, i)
-          (ending (map pieceOf (take (n - 1) ys)) s (text (c / 256)) w)
-          ∙ ap (λ (l : List Piece). nth (phrase l)) (sym (ap (map pieceOf) last-is ∙ map-append pieceOf (take (n - 1) ys) (c ∷ [])))
+          let u : (e * 256 + 0) % 256 ≡ 0 = omega arith in
+          let v : (e * 256 + 0) / 256 ≡ e = omega arith in
+          let f : take r vs ≡ (take (n - 1) ys ++ ((stem * 256 + s) ∷ [])) ++ ((e * 256 + 0) ∷ []) = q .more ∙ ap (λ (l : List ℕ). l ++ ((e * 256 + 0) ∷ [])) (p .more) in
+          ap (λ (l : List ℕ). phrase (map (pieceOf frPool) l)) f
+          ∙ rw (map-append (pieceOf frPool) (take (n - 1) ys ++ ((stem * 256 + s) ∷ [])) ((e * 256 + 0) ∷ []), map-append (pieceOf frPool) (take (n - 1) ys) ((stem * 256 + s) ∷ []), x, y, d, u, v, i)
+          (ending (map (pieceOf frPool) (take (n - 1) ys)) s (part frPool (c / 256)) w)
+          ∙ ap (λ (l : List Piece). nth (phrase l)) (sym (ap (map (pieceOf frPool)) last-is ∙ map-append (pieceOf frPool) (take (n - 1) ys) (c ∷ [])))

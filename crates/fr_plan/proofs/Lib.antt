@@ -1,5 +1,4 @@
-pub mod Tells
-pub mod Spoken
+pub mod Appends
 pub mod Cases
-pub mod Tops
+pub mod Said
 pub mod Endings

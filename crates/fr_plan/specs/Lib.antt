@@ -1,3 +1,2 @@
-pub mod Told
-pub mod Top
-pub mod Settings
+pub mod Appended
+pub mod Groups34

@@ -2,142 +2,129 @@
 use fr::French;
 ghost use mathlib.Core.Path.{_≡_};
 ghost use mathlib.Core.Bool.{_&&_};
-ghost use mathlib.Core.List.{_++_};
+ghost use mathlib.Core.List.{_∷_, _++_};
 ghost use Prim.Native.Nat.{_+_, _*_, _≤_, _<_};
 ghost use lib.Dec.{eqb};
 ghost use lib.ListN.{length};
-ghost use Rattle.words.specs.Text.{text};
+ghost use Rattle.words.specs.Part.{part};
 ghost use Rattle.figures.specs.Groups.{total};
+ghost use Rattle.groups.specs.Highest.{ZeroFrom, Highest};
 ghost use Rattle.plan.specs.Phrase.{phrase as phraseOf};
 ghost use Rattle.plan.specs.Plan.{says};
-ghost use Rattle.fr.specs.Numbered.{Known};
+ghost use Rattle.fr.specs.Pool.{frPool};
+ghost use Rattle.fr.specs.Settings.{french};
 ghost use Rattle.fr.specs.Rules.{isMille, joiner, spacedBy, hundredWords, link, lowWords, scaleWords};
 ghost use Rattle.fr.specs.Cardinal.{groupOf, groupsBelow, cardinalWords, cardinalPhrase};
 ghost use Rattle.fr.specs.Ordinal.{ordinalPhrase};
-ghost use Rattle.fr_plan.specs.Told.{Pushed, Told};
-ghost use Rattle.fr_plan.specs.Settings.{french};
-ghost use Rattle.fr_plan.specs.Top.{Groups34, Topped};
+ghost use Rattle.fr.specs.Placed.{Known};
+ghost use Rattle.fr_plan.specs.Appended.{Pushed, Appended};
+ghost use Rattle.fr_plan.specs.Groups34.{Groups34};
 
-// The separators: a hyphen, and none.
-const HYPHEN: u8 = 45;
+// How many groups a number has.
+pub const ORDERS: usize = 34;
 
+// How many pieces a plan has room for: no phrase has more than five for each group, and two.
+pub const PLAN: usize = 172;
+
+// A separator that says nothing.
 const ON: u8 = 0;
 
-// The numbers of the words that stand in no table.
-const ZERO: u16 = 257;
-
-const MOINS: u16 = 258;
-
-const CENT: u16 = 287;
-
-const ET: u16 = 290;
-
-const PREMIER: u16 = 388;
-
-const IEME: u16 = 389;
+// A plan's number is a place times this, and a separator.
+const SEPARATORS: u32 = 256;
 
 // Adds a word to a plan of which `at` are written. Unlike that of `plan::push`, its contract says which number is stored: an ordinal takes the
 // last one apart again.
-fn say(plan: &mut [u32], at: usize, separator: u8, id: u16) -> usize
+fn say(plan: &mut [u32], at: usize, separator: u8, place: u16) -> usize
     requires { ⌜ at < length (now plan) ⌝ }
-    ensures { λ r. ⌜ Pushed (now (plan .entry)) at (now (plan .exit)) r separator id ⌝ }
+    ensures { λ r. ⌜ Pushed (now (plan .entry)) at (now (plan .exit)) r separator place ⌝ }
 {
-    plan[at] = (id as u32) * 256 + (separator as u32);
+    plan[at] = (place as u32) * SEPARATORS + (separator as u32);
     at + 1
+}
+
+// Adds a word behind the joiner.
+fn join(f: French, place: u16, plan: &mut [u32], at: usize) -> usize
+    requires { ⌜ Known place × (at < length (now plan)) ⌝ }
+    ensures { λ r. ⌜ Appended 1 (now (plan .entry)) at (now (plan .exit)) r (joiner f ∷ part frPool place) ⌝ }
+{
+    say(plan, at, fr::joiner(f), place)
 }
 
 // The words of a hundreds digit: from 2 on they are one piece.
 fn hundred_words(
     f: French,
-    j: u8,
     order: usize,
     h: usize,
     below: usize,
     plan: &mut [u32],
     at: usize,
 ) -> usize
-    requires { ⌜ (j ≡ joiner f) × (h < 10) × (at < length (now plan)) ⌝ }
-    ensures { λ r. ⌜ Told 1 (now (plan .entry)) at (now (plan .exit)) r (spacedBy (joiner f) (hundredWords order h below)) ⌝ }
+    requires { ⌜ (h < 10) × (at < length (now plan)) ⌝ }
+    ensures { λ r. ⌜ Appended 1 (now (plan .entry)) at (now (plan .exit)) r (spacedBy (joiner f) (hundredWords order h below)) ⌝ }
 {
     if h == 0 {
         return at;
     }
     if h == 1 {
-        return say(plan, at, j, CENT);
+        return join(f, fr::CENT, plan, at);
     }
-    say(plan, at, j, fr::hundreds(f, order, h, below))
+    join(f, fr::hundreds(f, order, h, below), plan, at)
 }
 
 // The link from a tens word to what follows it, and that word.
-fn linked(f: French, j: u8, t: usize, u: usize, id: u16, plan: &mut [u32], at: usize) -> usize
-    requires { ⌜ (j ≡ joiner f) × Known id × (at + 2 ≤ length (now plan)) ⌝ }
-    ensures { λ r. ⌜ Told 2 (now (plan .entry)) at (now (plan .exit)) r (link f t u ++ text id) ⌝ }
+fn linked(f: French, t: usize, u: usize, place: u16, plan: &mut [u32], at: usize) -> usize
+    requires { ⌜ Known place × (at + 2 ≤ length (now plan)) ⌝ }
+    ensures { λ r. ⌜ Appended 2 (now (plan .entry)) at (now (plan .exit)) r (link f t u ++ part frPool place) ⌝ }
 {
     if fr::takes_et(f, t, u) {
-        let a = say(plan, at, j, ET);
-        return say(plan, a, j, id);
+        let a = join(f, fr::ET, plan, at);
+        return join(f, place, plan, a);
     }
-    say(plan, at, HYPHEN, id)
+    say(plan, at, b'-', place)
 }
 
 // The words of tens above 1 and units: the tens word below and a teen, a round number, or a tens word and a unit.
-fn high_words(
-    f: French,
-    j: u8,
-    order: usize,
-    t: usize,
-    u: usize,
-    plan: &mut [u32],
-    at: usize,
-) -> usize
-    requires { ⌜ (j ≡ joiner f) × (1 < t) × (t < 10) × (u < 10) × (f .region < 3) × (at + 3 ≤ length (now plan)) ⌝ }
-    ensures { λ r. ⌜ Told 3 (now (plan .entry)) at (now (plan .exit)) r (spacedBy (joiner f) (lowWords f order t u)) ⌝ }
+fn high_words(f: French, order: usize, t: usize, u: usize, plan: &mut [u32], at: usize) -> usize
+    requires { ⌜ (1 < t) × (t < 10) × (u < 10) × (f .region < 3) × (at + 3 ≤ length (now plan)) ⌝ }
+    ensures { λ r. ⌜ Appended 3 (now (plan .entry)) at (now (plan .exit)) r (spacedBy (joiner f) (lowWords f order t u)) ⌝ }
 {
     if fr::counts_on(f, t) {
-        let a = say(plan, at, j, fr::ten(f, t - 1));
-        return linked(f, j, t, u, fr::teen(u), plan, a);
+        let a = join(f, fr::ten(f, t - 1), plan, at);
+        return linked(f, t, u, fr::teen(u), plan, a);
     }
     if u == 0 {
-        return say(plan, at, j, fr::round(f, order, t));
+        return join(f, fr::round(f, order, t), plan, at);
     }
-    let a = say(plan, at, j, fr::ten(f, t));
-    linked(f, j, t, u, fr::unit(f, order, u), plan, a)
+    let a = join(f, fr::ten(f, t), plan, at);
+    linked(f, t, u, fr::unit(f, order, u), plan, a)
 }
 
 // The words of the tens and units digits.
-fn low_words(
-    f: French,
-    j: u8,
-    order: usize,
-    t: usize,
-    u: usize,
-    plan: &mut [u32],
-    at: usize,
-) -> usize
-    requires { ⌜ (j ≡ joiner f) × (t < 10) × (u < 10) × (f .region < 3) × (at + 3 ≤ length (now plan)) ⌝ }
-    ensures { λ r. ⌜ Told 3 (now (plan .entry)) at (now (plan .exit)) r (spacedBy (joiner f) (lowWords f order t u)) ⌝ }
+fn low_words(f: French, order: usize, t: usize, u: usize, plan: &mut [u32], at: usize) -> usize
+    requires { ⌜ (t < 10) × (u < 10) × (f .region < 3) × (at + 3 ≤ length (now plan)) ⌝ }
+    ensures { λ r. ⌜ Appended 3 (now (plan .entry)) at (now (plan .exit)) r (spacedBy (joiner f) (lowWords f order t u)) ⌝ }
 {
     if 1 < t {
-        return high_words(f, j, order, t, u, plan, at);
+        return high_words(f, order, t, u, plan, at);
     }
     if t == 1 {
-        return say(plan, at, j, fr::teen(u));
+        return join(f, fr::teen(u), plan, at);
     }
     if u == 0 {
         return at;
     }
-    say(plan, at, j, fr::unit(f, order, u))
+    join(f, fr::unit(f, order, u), plan, at)
 }
 
 // The scale word above order 0.
-fn scale_words(j: u8, order: usize, g: usize, plan: &mut [u32], at: usize) -> usize
-    requires { ⌜ (0 < j) × (order < 34) × (at < length (now plan)) ⌝ }
-    ensures { λ r. ⌜ Told 1 (now (plan .entry)) at (now (plan .exit)) r (spacedBy j (scaleWords order g)) ⌝ }
+fn scale_words(f: French, order: usize, g: usize, plan: &mut [u32], at: usize) -> usize
+    requires { ⌜ (order < 34) × (at < length (now plan)) ⌝ }
+    ensures { λ r. ⌜ Appended 1 (now (plan .entry)) at (now (plan .exit)) r (spacedBy (joiner f) (scaleWords order g)) ⌝ }
 {
     if order == 0 {
         return at;
     }
-    say(plan, at, j, fr::scale(order, g))
+    join(f, fr::scale(order, g), plan, at)
 }
 
 // Whether a group is its scale word alone.
@@ -148,21 +135,21 @@ fn is_bare(order: usize, g: usize) -> bool
 }
 
 // A group at its order; nothing for 0, and for 1 at order 1 the scale word alone.
-fn group(f: French, j: u8, order: usize, g: u16, plan: &mut [u32], at: usize) -> usize
-    requires { ⌜ (j ≡ joiner f) × (f .region < 3) × (order < 34) × (at + 5 ≤ length (now plan)) ⌝ }
-    ensures { λ r. ⌜ Told 5 (now (plan .entry)) at (now (plan .exit)) r (spacedBy (joiner f) (groupOf f order g)) ⌝ }
+fn group(f: French, order: usize, g: u16, plan: &mut [u32], at: usize) -> usize
+    requires { ⌜ (f .region < 3) × (order < 34) × (at + 5 ≤ length (now plan)) ⌝ }
+    ensures { λ r. ⌜ Appended 5 (now (plan .entry)) at (now (plan .exit)) r (spacedBy (joiner f) (groupOf f order g)) ⌝ }
 {
     if g == 0 {
         return at;
     }
     let n = g as usize;
     if is_bare(order, n) {
-        return scale_words(j, order, n, plan, at);
+        return scale_words(f, order, n, plan, at);
     }
     let below = n % 100;
-    let a = hundred_words(f, j, order, n / 100 % 10, below, plan, at);
-    let b = low_words(f, j, order, below / 10, below % 10, plan, a);
-    scale_words(j, order, n, plan, b)
+    let a = hundred_words(f, order, n / 100 % 10, below, plan, at);
+    let b = low_words(f, order, below / 10, below % 10, plan, a);
+    scale_words(f, order, n, plan, b)
 }
 
 // The groups below order n, from the highest down: each call has one order fewer. The settings go as numbers and the plan as an array, and nothing
@@ -171,14 +158,13 @@ fn groups(
     feminine: u32,
     reformed: u32,
     region: u32,
-    j: u8,
     n: usize,
-    gs: &[u16; 34],
-    plan: &mut [u32; 308],
+    gs: &[u16; ORDERS],
+    plan: &mut [u32; PLAN],
     at: usize,
 ) -> usize
-    requires { ⌜ (j ≡ joiner (french feminine reformed region)) × (region < 3) × (n ≤ 34) × (at + 5 * n ≤ length (now plan)) ⌝ }
-    ensures { λ r. ⌜ Told (5 * n) (now (plan .entry)) at (now (plan .exit)) r (spacedBy (joiner (french feminine reformed region)) (groupsBelow (french feminine reformed region) n (now (gs .entry)))) ⌝ }
+    requires { ⌜ (region < 3) × (n ≤ 34) × (at + 5 * n ≤ length (now plan)) ⌝ }
+    ensures { λ r. ⌜ Appended (5 * n) (now (plan .entry)) at (now (plan .exit)) r (spacedBy (joiner (french feminine reformed region)) (groupsBelow (french feminine reformed region) n (now (gs .entry)))) ⌝ }
 {
     if n == 0 {
         return at;
@@ -189,98 +175,65 @@ fn groups(
         reformed,
         region,
     };
-    let k = group(f, j, order, gs[order], plan, at);
-    groups(feminine, reformed, region, j, order, gs, plan, k)
+    let k = group(f, order, gs[order], plan, at);
+    groups(feminine, reformed, region, order, gs, plan, k)
 }
 
-// The orders up to the highest group that is not 0.
-fn top(n: usize, gs: &[u16; 34]) -> usize
-    requires { ⌜ n ≤ 34 ⌝ }
-    ensures { λ r. ⌜ Topped (now (gs .entry)) n r ⌝ }
-{
-    if n == 0 {
-        return 0;
-    }
-    let order = n - 1;
-    if gs[order] == 0 {
-        return top(order, gs);
-    }
-    n
-}
-
-// Whether the number with these groups, of which those from `high` on are 0, is n.
-fn is_below(high: usize, gs: &[u16; 34], n: u16) -> bool
-    requires { ⌜ (n < 1000) × Groups34 (now gs) × Topped (now gs) 34 high ⌝ }
-    ensures { λ r. ⌜ r ≡ eqb (total (now (gs .entry))) n ⌝ }
-{
-    if 1 < high {
-        return false;
-    }
-    gs[0] == n
-}
-
-// Whether the number with these groups is n.
-pub fn is(gs: &[u16; 34], n: u16) -> bool
-    requires { ⌜ (n < 1000) × Groups34 (now gs) ⌝ }
-    ensures { λ r. ⌜ r ≡ eqb (total (now (gs .entry))) n ⌝ }
-{
-    is_below(top(34, gs), gs, n)
-}
-
-// The plan of a cardinal: zero's word, or the minus word if negative and the groups, of which those from `high` on are 0.
+// The plan of a cardinal: zero's word, or the minus word if negative and the groups, of which those from n on are 0.
 fn plan_words(
     f: French,
     zero: bool,
     negative: bool,
-    high: usize,
-    gs: &[u16; 34],
-    plan: &mut [u32; 308],
+    n: usize,
+    gs: &[u16; ORDERS],
+    plan: &mut [u32; PLAN],
 ) -> usize
-    requires { ⌜ (f .region < 3) × Topped (now gs) 34 high × (307 ≤ length (now plan)) ⌝ }
-    ensures { λ r. ⌜ Told 307 (now (plan .entry)) 0 (now (plan .exit)) r (spacedBy (joiner f) (cardinalWords f zero negative (now (gs .entry)))) ⌝ }
+    requires { ⌜ (f .region < 3) × ZeroFrom (now gs) n × (n ≤ 34) × (171 ≤ length (now plan)) ⌝ }
+    ensures { λ r. ⌜ Appended 171 (now (plan .entry)) 0 (now (plan .exit)) r (spacedBy (joiner f) (cardinalWords f zero negative (now (gs .entry)))) ⌝ }
 {
-    let j = fr::joiner(f);
     if zero {
-        return say(plan, 0, j, ZERO);
+        return join(f, fr::ZERO, plan, 0);
     }
     if negative {
-        let at = say(plan, 0, j, MOINS);
-        return groups(f.feminine, f.reformed, f.region, j, high, gs, plan, at);
+        let at = join(f, fr::MOINS, plan, 0);
+        return groups(f.feminine, f.reformed, f.region, n, gs, plan, at);
     }
-    groups(f.feminine, f.reformed, f.region, j, high, gs, plan, 0)
+    groups(f.feminine, f.reformed, f.region, n, gs, plan, 0)
 }
 
-// The plan of a cardinal's phrase.
+// The plan of a cardinal's phrase, of a number whose groups have n orders.
 pub fn plan_cardinal(
     f: French,
     zero: bool,
     negative: bool,
-    gs: &[u16; 34],
-    plan: &mut [u32; 308],
+    n: usize,
+    gs: &[u16; ORDERS],
+    plan: &mut [u32; PLAN],
 ) -> usize
-    requires { ⌜ (f .region < 3) × (308 ≤ length (now plan)) ⌝ }
-    ensures { λ r. ⌜ (r ≤ 308) × (phraseOf (says (now (plan .exit)) r) ≡ cardinalPhrase f zero negative (now (gs .entry))) × (length (now (plan .exit)) ≡ length (now (plan .entry))) ⌝ }
+    requires { ⌜ (f .region < 3) × ZeroFrom (now gs) n × (n ≤ 34) × (172 ≤ length (now plan)) ⌝ }
+    ensures { λ r. ⌜ (r ≤ 172) × (phraseOf (says frPool (now (plan .exit)) r) ≡ cardinalPhrase f zero negative (now (gs .entry))) × (length (now (plan .exit)) ≡ length (now (plan .entry))) ⌝ }
 {
-    plan_words(f, zero, negative, top(34, gs), gs, plan)
+    plan_words(f, zero, negative, n, gs, plan)
 }
 
-// The plan of an ordinal's phrase: the cardinal's, with the last word's stem and the ending.
-pub fn plan_ordinal(f: French, gs: &[u16; 34], plan: &mut [u32; 308]) -> usize
-    requires { ⌜ (f .region < 3) × Groups34 (now gs) × (308 ≤ length (now plan)) ⌝ }
-    ensures { λ r. ⌜ (r ≤ 308) × (phraseOf (says (now (plan .exit)) r) ≡ ordinalPhrase f (eqb (total (now (gs .entry))) 0) (eqb (total (now (gs .entry))) 1) (now (gs .entry))) × (length (now (plan .exit)) ≡ length (now (plan .entry))) ⌝ }
+// The plan of an ordinal's phrase: the cardinal's, with the last word's stem and the ending. The texts are lent.
+pub fn plan_ordinal(
+    lent: &[u8],
+    f: French,
+    n: usize,
+    gs: &[u16; ORDERS],
+    plan: &mut [u32; PLAN],
+) -> usize
+    requires { ⌜ (now lent ≡ frPool) × (f .region < 3) × Groups34 (now gs) × Highest (now gs) n × (172 ≤ length (now plan)) ⌝ }
+    ensures { λ r. ⌜ (r ≤ 172) × (phraseOf (says frPool (now (plan .exit)) r) ≡ ordinalPhrase f (eqb (total (now (gs .entry))) 0) (eqb (total (now (gs .entry))) 1) (now (gs .entry))) × (length (now (plan .exit)) ≡ length (now (plan .entry))) ⌝ }
 {
-    let high = top(34, gs);
-    if is_below(high, gs, 1) {
-        return say(plan, 0, fr::joiner(f), PREMIER);
+    if groups::is(n, gs, 1) {
+        return join(f, fr::PREMIER, plan, 0);
     }
-    let n = plan_words(f, is_below(high, gs, 0), false, high, gs, plan);
-    let last = n - 1;
+    let count = plan_words(f, groups::is(n, gs, 0), false, n, gs, plan);
+    let last = count - 1;
     let code = plan[last];
-    let a = say(
-        plan,
-        last,
-        (code % 256) as u8,
-        fr::stem((code / 256) as u16),
-    );
-    say(plan, a, ON, IEME)
+    let place = fr::stem(lent, (code / SEPARATORS) as u16);
+    let a = say(plan, last, (code % SEPARATORS) as u8, place);
+    say(plan, a, ON, fr::IEME)
 }

@@ -8,7 +8,7 @@ use native.Mathlib.Omega.{arith}
 use lib.Dec.{eqb, ltb}
 use lib.ListN.{length, length-append}
 use Rattle.figures.specs.Groups.{Groups}
-use Rattle.fr_plan.specs.Top.{Groups34}
+use Rattle.fr_plan.specs.Groups34.{Groups34}
 use Rattle.fr_read.specs.Reading.{grow, times, one, Group, guess, seems, reads, guessed}
 
 pub grow-small : (c m : ℕ) → grow c m < 100

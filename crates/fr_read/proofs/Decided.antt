@@ -16,7 +16,7 @@ use Rattle.fr.specs.Ordinal.{ordinalPhrase}
 use Rattle.fr.specs.Grammar.{Says, SaysNth}
 use Rattle.fr.specs.declared.French.{French}
 use Rattle.fr.proofs.Sentences.{says, said, says-nth, said-nth}
-use Rattle.fr_plan.specs.Top.{Groups34}
+use Rattle.fr_plan.specs.Groups34.{Groups34}
 use Rattle.fr_read.specs.Reading.{meanings, isMinus, unsigned, guessed}
 use Rattle.fr_read.proofs.Guesses.{guess-cardinal, guess-ordinal}
 use Rattle.fr_read.proofs.Bounds.{guessed-groups}

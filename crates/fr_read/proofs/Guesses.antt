@@ -19,7 +19,7 @@ use Rattle.fr.specs.Rules.{InRange, isReformed, joiner, spacedBy, joinedBy, gro
 use Rattle.fr.specs.Cardinal.{groupOf, groupsBelow, cardinalWords, cardinalPhrase}
 use Rattle.fr.specs.Ordinal.{nth, ordinalPhrase}
 use Rattle.fr.specs.declared.French.{French}
-use Rattle.fr_plan.proofs.Tops.{spoken}
+use Rattle.fr_plan.proofs.Said.{spoken}
 use Rattle.fr_read.specs.Reading.{meanings, guess, seems, reads, isMinus, unsigned, guessed}
 use Rattle.fr_read.proofs.Splits.{sense, sense-append, Closed, Sounds, sounds-append, sounds-closed, meanings-joined, meanings-nth}
 use Rattle.fr_read.proofs.Known.{zero-known, moins-means, premier-means}

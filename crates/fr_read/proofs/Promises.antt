@@ -15,7 +15,7 @@ use Rattle.fr.specs.Cardinal.{cardinalPhrase}
 use Rattle.fr.specs.Ordinal.{ordinalPhrase}
 use Rattle.fr.specs.Grammar.{Says, SaysNth}
 use Rattle.fr.specs.declared.French.{French}
-use Rattle.fr_plan.specs.Top.{Groups34}
+use Rattle.fr_plan.specs.Groups34.{Groups34}
 use Rattle.fr_read.specs.Reading.{meanings, isMinus, unsigned, guessed}
 use Rattle.fr_read.specs.Promise.{ReadNth}
 use Rattle.fr_read.proofs.Bounds.{guessed-groups}

@@ -2,6 +2,8 @@
 // plan, is held against the bytes. So everything that depends on a setting stands in the planner alone.
 use figures::Seen;
 use fr::French;
+use fr_plan::ORDERS;
+use fr_plan::PLAN;
 ghost use mathlib.Core.Path.{_≡_};
 ghost use mathlib.Core.List.{_∷_, _++_};
 ghost use Prim.Native.Nat.{ℕ, _+_, _-_, _%_, _≤_, _<_};
@@ -14,19 +16,28 @@ ghost use Rattle.fr.specs.Rules.{InRange};
 ghost use Rattle.fr.specs.Cardinal.{cardinalPhrase};
 ghost use Rattle.fr.specs.Ordinal.{ordinalPhrase};
 ghost use Rattle.fr.specs.Grammar.{Says};
-ghost use Rattle.fr_plan.specs.Top.{Groups34};
+ghost use Rattle.groups.specs.Highest.{ZeroFrom, Highest};
+ghost use Rattle.fr_plan.specs.Groups34.{Groups34};
 ghost use Rattle.fr_read.specs.Reading.{meanings, grow as growOf, times as timesOf, one as oneOf, guess as guessOf, seems, reads, isMinus, unsigned, guessed};
 ghost use Rattle.fr_read.specs.Promise.{ReadNth};
 
-// A number below a hundred, what the word that ends it means, and where the next word starts.
+// The meaning of the minus word, and those of the scale words: an order above this.
+const MINUS: u16 = 2001;
+
+const SCALE: u16 = 1000;
+
+// The meaning of `cent`, which is its value.
+const HUNDRED: u16 = 100;
+
+// A number below a hundred, the meaning of the word that ends it, and where the next word starts.
 pub struct Part {
-    pub c: u16,
-    pub m: u16,
+    pub count: u16,
+    pub meaning: u16,
     pub next: usize,
 }
 
 // A group's value and order, and where the next group starts.
-pub struct Seem {
+pub struct Group {
     pub value: u16,
     pub order: usize,
     pub next: usize,
@@ -37,7 +48,11 @@ fn sum(c: u16, m: u16) -> u16
     requires { ⌜ (c < 100) × (m ≤ 100) ⌝ }
     ensures { λ r. ⌜ r ≡ (c + m) % 100 ⌝ }
 {
-    if c + m < 100 { c + m } else { c + m - 100 }
+    if c + m < HUNDRED {
+        c + m
+    } else {
+        c + m - HUNDRED
+    }
 }
 
 // One more word of a number below a hundred.
@@ -73,14 +88,14 @@ fn one(v: u16) -> u16
 fn order_of(m: u16) -> usize
     ensures { λ r. ⌜ r ≡ m - 1000 ⌝ }
 {
-    if m < 1000 { 0 } else { (m - 1000) as usize }
+    if m < SCALE { 0 } else { (m - SCALE) as usize }
 }
 
 // The number below a hundred from a place on: its words, up to one that means a hundred or more, or the end, which means 0.
 fn low(s: &[u8], from: usize) -> Part
     requires { ⌜ from < length (now s) ⌝ }
-    ensures { λ r. ⌜ ((h : ℕ) → seems h 0 (meanings (drop from (now (s .entry)))) ≡ seems h (r .c) (r .m ∷ meanings (drop (r .next) (now (s .entry))))) ⌝ }
-    ensures { λ r. ⌜ (r .c < 100) × (from < r .next) × (r .next ≤ length (now (s .entry))) × (r .m < 100 → (r .m ≡ 0) × (length (now (s .entry)) ≤ r .next)) ⌝ }
+    ensures { λ r. ⌜ ((h : ℕ) → seems h 0 (meanings (drop from (now (s .entry)))) ≡ seems h (r .count) (r .meaning ∷ meanings (drop (r .next) (now (s .entry))))) ⌝ }
+    ensures { λ r. ⌜ (r .count < 100) × (from < r .next) × (r .next ≤ length (now (s .entry))) × (r .meaning < 100 → (r .meaning ≡ 0) × (length (now (s .entry)) ≤ r .next)) ⌝ }
 {
     let mut c: u16 = 0;
     let mut at = from;
@@ -88,16 +103,24 @@ fn low(s: &[u8], from: usize) -> Part
         let w = walker::word(s, at);
         let m = fr_meanings::meaning(w.key);
         at += w.next;
-        if 99 < m {
-            return Part { c, m, next: at };
+        if HUNDRED <= m {
+            return Part {
+                count: c,
+                meaning: m,
+                next: at,
+            };
         }
         c = grow(c, m);
     }
-    Part { c, m: 0, next: at }
+    Part {
+        count: c,
+        meaning: 0,
+        next: at,
+    }
 }
 
 // The group at the front: its words, up to a scale word or the end.
-fn group(s: &[u8]) -> Seem
+fn first_group(s: &[u8]) -> Group
     ensures { λ r. ⌜ seems 0 0 (meanings (now (s .entry))) ≡ guessOf (r .value) (r .order) (meanings (drop (r .next) (now (s .entry)))) ⌝ }
     ensures { λ r. ⌜ r .next ≤ length (now (s .entry)) ⌝ }
 {
@@ -106,24 +129,24 @@ fn group(s: &[u8]) -> Seem
     while at < s.len() {
         let t = low(s, at);
         at = t.next;
-        if 100 < t.m {
-            return Seem {
-                value: one(100 * h + t.c),
-                order: order_of(t.m),
+        if HUNDRED < t.meaning {
+            return Group {
+                value: one(HUNDRED * h + t.count),
+                order: order_of(t.meaning),
                 next: at,
             };
         }
-        if t.m < 100 {
-            return Seem {
-                value: 100 * h + t.c,
+        if t.meaning < HUNDRED {
+            return Group {
+                value: HUNDRED * h + t.count,
                 order: 0,
                 next: at,
             };
         }
-        h = times(t.c);
+        h = times(t.count);
     }
-    Seem {
-        value: 100 * h,
+    Group {
+        value: HUNDRED * h,
         order: 0,
         next: at,
     }
@@ -131,11 +154,11 @@ fn group(s: &[u8]) -> Seem
 
 // The groups of the orders below k, from the highest down; each call has the order of the group that it follows, which is lower, and the part of
 // the text behind it. The orders that are not there stay 0.
-fn groups(k: usize, s: &[u8], out: &mut [u16; 34])
+fn groups(k: usize, s: &[u8], out: &mut [u16; ORDERS])
     requires { ⌜ (k ≤ 34) × (now out ≡ replicate k 0 ++ drop k (now out)) ⌝ }
     ensures { λ _. ⌜ now (out .exit) ≡ reads k (seems 0 0 (meanings (now (s .entry)))) ++ drop k (now (out .entry)) ⌝ }
 {
-    let g = group(s);
+    let g = first_group(s);
     let order = g.order;
     if order < k {
         out[order] = g.value;
@@ -145,11 +168,11 @@ fn groups(k: usize, s: &[u8], out: &mut [u16; 34])
 }
 
 // All groups.
-fn guess(s: &[u8], out: &mut [u16; 34])
+fn guess(s: &[u8], out: &mut [u16; ORDERS])
     ensures { λ _. ⌜ now (out .exit) ≡ guessed (meanings (now (s .entry))) ⌝ }
 {
-    *out = [0u16; 34];
-    groups(34, s, out);
+    *out = [0u16; ORDERS];
+    groups(ORDERS, s, out);
 }
 
 // How many bytes the minus word and the gap behind it have at the front; 0 where it does not stand there.
@@ -158,7 +181,7 @@ fn sign(s: &[u8]) -> usize
 {
     let w = walker::word(s, 0);
     if w.more {
-        if fr_meanings::meaning(w.key) == 2001 {
+        if fr_meanings::meaning(w.key) == MINUS {
             return w.next;
         }
         return 0;
@@ -166,43 +189,52 @@ fn sign(s: &[u8]) -> usize
     0
 }
 
-// Whether s is the cardinal of these groups.
-fn is_cardinal(f: French, zero: bool, negative: bool, gs: &[u16; 34], s: &[u8]) -> bool
-    requires { ⌜ InRange f ⌝ }
+// Whether s is the cardinal of these groups, which have n orders.
+fn is_cardinal(
+    f: French,
+    zero: bool,
+    negative: bool,
+    n: usize,
+    gs: &[u16; ORDERS],
+    s: &[u8],
+) -> bool
+    requires { ⌜ InRange f × ZeroFrom (now gs) n × (n ≤ 34) ⌝ }
     ensures { λ r. ⌜ Decides r (cardinalPhrase f zero negative (now (gs .entry)) ≡ now (s .entry)) ⌝ }
 {
-    let mut plan = [0u32; 308];
-    let n = fr_plan::plan_cardinal(f, zero, negative, gs, &mut plan);
-    plan::stands(&plan[..n], s)
+    let mut plan = [0u32; PLAN];
+    let k = fr_plan::plan_cardinal(f, zero, negative, n, gs, &mut plan);
+    fr::stands(&plan[..k], s)
 }
 
-// Whether s is the ordinal of these groups.
-fn is_ordinal(f: French, gs: &[u16; 34], s: &[u8]) -> bool
-    requires { ⌜ InRange f × Groups34 (now gs) ⌝ }
+// Whether s is the ordinal of these groups, which have n orders.
+fn is_ordinal(f: French, n: usize, gs: &[u16; ORDERS], s: &[u8]) -> bool
+    requires { ⌜ InRange f × Groups34 (now gs) × Highest (now gs) n ⌝ }
     ensures { λ r. ⌜ Decides r (ordinalPhrase f (eqb (total (now (gs .entry))) 0) (eqb (total (now (gs .entry))) 1) (now (gs .entry)) ≡ now (s .entry)) ⌝ }
 {
-    let mut plan = [0u32; 308];
-    let n = fr_plan::plan_ordinal(f, gs, &mut plan);
-    plan::stands(&plan[..n], s)
+    let lent = fr::texts();
+    let mut plan = [0u32; PLAN];
+    let k = fr_plan::plan_ordinal(&lent, f, n, gs, &mut plan);
+    plan::stands(&lent, &plan[..k], s)
 }
 
 // Any bytes as a cardinal under these settings: what they are by the grammar, with the groups in out.
-pub fn read_cardinal(f: French, s: &[u8], out: &mut [u16; 34]) -> Seen
+pub fn read_cardinal(f: French, s: &[u8], out: &mut [u16; ORDERS]) -> Seen
     requires { ⌜ InRange f × (length (now out) ≡ 34) ⌝ }
     ensures { λ r. ⌜ ReadOf (Says f (now (s .entry))) r (now (out .exit)) × Groups34 (now (out .exit)) ⌝ }
 {
     let k = sign(s);
     guess(&s[k..], out);
-    let zero = fr_plan::is(out, 0);
-    let stands = is_cardinal(f, zero, 0 < k, out, s);
+    let n = groups::top(out);
+    let zero = n == 0;
+    let stands = is_cardinal(f, zero, 0 < k, n, out, s);
     figures::seen_of(stands, zero, 0 < k)
 }
 
 // Any bytes as an ordinal under these settings: whether they are one by the grammar, with the groups in out.
-pub fn read_ordinal(f: French, s: &[u8], out: &mut [u16; 34]) -> bool
+pub fn read_ordinal(f: French, s: &[u8], out: &mut [u16; ORDERS]) -> bool
     requires { ⌜ InRange f × (length (now out) ≡ 34) ⌝ }
     ensures { λ r. ⌜ ReadNth f (now (s .entry)) r (now (out .exit)) × Groups34 (now (out .exit)) ⌝ }
 {
     guess(s, out);
-    is_ordinal(f, out, s)
+    is_ordinal(f, groups::top(out), out, s)
 }

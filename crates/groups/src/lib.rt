@@ -2,10 +2,12 @@
 ghost use mathlib.Core.Path.{_≡_};
 ghost use mathlib.Core.Bool.{true};
 ghost use mathlib.Core.List.{[], _∷_};
-ghost use Prim.Native.Nat.{_≤_};
-ghost use lib.ListN.{length, take, replicate};
+ghost use Prim.Native.Nat.{_+_, _-_, _/_, _≤_, _<_};
+ghost use lib.Dec.{eqb};
+ghost use lib.ListN.{length, take, drop, getD, replicate};
 ghost use Rattle.figures.specs.Text.{digits, value};
-ghost use Rattle.figures.specs.Groups.{groupsOf};
+ghost use Rattle.figures.specs.Groups.{groupsOf, total, Groups};
+ghost use Rattle.groups.specs.Highest.{Highest};
 
 // What three digits mean; their bytes of '0' add up to 5328.
 fn three(a: u8, b: u8, c: u8) -> u16
@@ -93,4 +95,48 @@ pub fn groups_from(n: u64, out: &mut [u16])
         out[o] = 0;
         o += 1;
     }
+}
+
+// How many groups digits have.
+pub fn count(s: &[u8]) -> usize
+    ensures { λ r. ⌜ r ≡ (length (now (s .entry)) + 2) / 3 ⌝ }
+{
+    (s.len() + 2) / 3
+}
+
+// The orders up to the highest group that is not 0.
+pub fn top(gs: &[u16]) -> usize
+    ensures { λ r. ⌜ Highest (now (gs .entry)) r × (0 < r → getD (now (gs .entry)) (r - 1) 0 ≡ 0 → ⊥) ⌝ }
+{
+    let mut n = gs.len();
+    while 0 < n {
+        if gs[n - 1] != 0 {
+            return n;
+        }
+        n -= 1;
+    }
+    n
+}
+
+// Whether a number whose groups are these, of n orders, is k.
+pub fn is(n: usize, gs: &[u16], k: u16) -> bool
+    requires { ⌜ (k < 1000) × Groups (now gs) × (0 < length (now gs)) × Highest (now gs) n ⌝ }
+    ensures { λ r. ⌜ r ≡ eqb (total (now (gs .entry))) k ⌝ }
+{
+    if 1 < n { false } else { gs[0] == k }
+}
+
+// Whether the groups from order k on are 0.
+pub fn zero_from(k: usize, gs: &[u16]) -> bool
+    requires { ⌜ k ≤ length (now gs) ⌝ }
+    ensures { λ r. ⌜ r ≡ eqb (total (drop k (now (gs .entry)))) 0 ⌝ }
+{
+    let mut i = k;
+    while i < gs.len() {
+        if gs[i] != 0 {
+            return false;
+        }
+        i += 1;
+    }
+    true
 }

@@ -1,2 +1,3 @@
 pub mod Readings
 pub mod Write
+pub mod Heights

@@ -19,14 +19,8 @@ fn height(g: &[u16]) -> usize
     ensures { λ r. ⌜ (0 < r) × (r ≤ length (now (g .entry))) ⌝ }
     ensures { λ r. ⌜ (total (now (g .entry)) < 1000 ^ r) × (1 < r → 1000 ^ (r - 1) ≤ total (now (g .entry))) ⌝ }
 {
-    let mut o = g.len();
-    while 1 < o {
-        if g[o - 1] != 0 {
-            return o;
-        }
-        o -= 1;
-    }
-    1
+    let n = groups::top(g);
+    if n == 0 { 1 } else { n }
 }
 
 // How many digits a group has without leading zeros.
@@ -157,10 +151,7 @@ pub fn put_seen(seen: Seen, g: &[u16], out: &mut [u8]) -> Answer
     ensures { λ r. ⌜ Answers r (now (out .entry)) (now (out .exit)) (answered seen (total (now (g .entry))) (now (out .entry))) ⌝ }
 {
     match seen {
-        Seen::Refused => Answer {
-            number: 6,
-            length: 0,
-        },
+        Seen::Refused => base::refused(6),
         Seen::Plain => put_number(false, g, out),
         Seen::Negative => put_number(true, g, out),
     }

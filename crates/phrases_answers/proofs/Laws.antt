@@ -21,7 +21,8 @@ use Rattle.figures.specs.declared.Judged.{Judged}
 use Rattle.figures.specs.declared.Judged.the-variants.{Fine, Malformed, Negative, Large}
 use Rattle.uk.specs.Settings.{inRange, unlessSettings}
 use Rattle.uk_ordinal_calls.specs.Calls.{yearPhrase}
-use Rattle.fr_calls.specs.Calls.{french, inRange as inFrenchRange}
+use Rattle.fr.specs.Settings.{french}
+use Rattle.fr_calls.specs.Calls.{inRange as inFrenchRange}
 use Rattle.phrases_forms.specs.Line.{first, rest, kindOf, languageOf, genderOf, grammaticalNumberOf, caseOf, feminineOf, reformedOf, regionOf, closed}
 use Rattle.phrases_forms.specs.declared.Kind.{Kind}
 use Rattle.phrases_forms.specs.declared.Language.{Language}

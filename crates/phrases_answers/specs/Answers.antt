@@ -15,7 +15,8 @@ use Rattle.uk_calls.specs.Cardinals.{refusedCardinal, cardinal}
 use Rattle.uk_ordinal_calls.specs.Calls.{refusedOrdinal, refusedDigitOrdinal, ordinalPhrase, yearPhrase}
 use Rattle.uk_ordinal.specs.DigitOrdinal.{digitOrdinal}
 use Rattle.uk_money_calls.specs.MoneyCalls.{refusedAmount, moneyPhrase}
-use Rattle.fr_calls.specs.Calls.{french, firstRefusal, cardinalRefusal, ordinalRefusal, cardinalOf, ordinalOf, inRange as inFrenchRange}
+use Rattle.fr.specs.Settings.{french}
+use Rattle.fr_calls.specs.Calls.{firstRefusal, cardinalRefusal, ordinalRefusal, cardinalOf, ordinalOf, inRange as inFrenchRange}
 use Rattle.phrases_forms.specs.Line.{first, rest, kindOf, languageOf, genderOf, grammaticalNumberOf, caseOf, feminineOf, reformedOf, regionOf, run, inner, closed}
 use Rattle.phrases_forms.specs.declared.Kind.{Kind}
 use Rattle.phrases_forms.specs.declared.Kind.the-variants.{Card, Ord, Num, Year, Money, Other}

@@ -1,9 +1,9 @@
 // French forms: cardinals and ordinals.
 use super::write::bad;
 use super::write::finish;
+use fr::French;
 use phrases_forms::Kind;
 use phrases_forms::runs::is_closed;
-use fr::French;
 ghost use Prim.Native.Nat.{_≤_};
 ghost use lib.ListN.{length};
 ghost use Rattle.phrases_forms.specs.declared.Kind.the-variants.{Card, Ord};

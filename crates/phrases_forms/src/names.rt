@@ -11,7 +11,7 @@ fn is(s: &[u8], w: &[u8]) -> bool
     ensures { λ r. ⌜ r ≡ sameText (now (w .entry)) (now (s .entry)) ⌝ }
 {
     if s.len() == w.len() {
-        base::front(w, s)
+        words::begins(w, s)
     } else {
         false
     }

@@ -1,7 +1,7 @@
 -- However the input falls into blocks, what is written block by block, and at the end for the line that is left, is what the program writes to all of it.
 -- Assumes nothing.
 use Prim.Native.Nat.{ℕ}
-use mathlib.Core.Path.{_≡_, refl, sym, ap, _∙_}
+use mathlib.Core.Path.{_≡_, sym, ap, _∙_}
 use mathlib.Core.List.{List, [], _∷_, _++_, append-assoc, append-nil}
 use Rattle.phrases_lines.specs.Program.{program, Answered}
 

@@ -1,12 +1,11 @@
 -- A phrase is short: no piece has more than 40 bytes with its separator.
 -- Assumes nothing.
 use Prim.Native.Nat.{ℕ, zero, suc, _*_, _/_, _%_, _≤_}
-use mathlib.Core.List.{List, [], _∷_, _++_}
+use mathlib.Core.List.{List, [], _∷_}
 use native.Mathlib.Omega.{arith}
 use lib.ListN.{length, take, length-append}
 use lib.Seq.{length-take-le}
-use Rattle.words.specs.Text.{text}
-use Rattle.words.proofs.Banks.{text-short}
+use Rattle.words.proofs.Parts.{part-short}
 use Rattle.plan.specs.Phrase.{gap, following, phrase}
 use Rattle.plan.specs.Plan.{pieceOf, pieces, says}
 
@@ -14,17 +13,17 @@ gap-short : (s : ℕ) → length (gap s) ≤ 1
 gap-short zero = omega arith
 gap-short (suc s) = omega arith
 
-following-short : (xs : List ℕ) → length (following (pieces xs)) ≤ 40 * length xs
+following-short : (pool xs : List ℕ) → length (following (pieces pool xs)) ≤ 40 * length xs
 unfolding following pieces pieceOf
-following-short [] = omega arith
-following-short (x ∷ xs) =
-    rw (length-append, length-append) (omega (arith, gap-short (x % 256), text-short (x / 256), following-short xs))
+following-short pool [] = omega arith
+following-short pool (x ∷ xs) =
+    rw (length-append, length-append) (omega (arith, gap-short (x % 256), part-short pool (x / 256), following-short pool xs))
 
-pieces-short : (xs : List ℕ) → length (phrase (pieces xs)) ≤ 40 * length xs
+pieces-short : (pool xs : List ℕ) → length (phrase (pieces pool xs)) ≤ 40 * length xs
 unfolding phrase pieces pieceOf
-pieces-short [] = omega arith
-pieces-short (x ∷ xs) = rw length-append (omega (arith, text-short (x / 256), following-short xs))
+pieces-short pool [] = omega arith
+pieces-short pool (x ∷ xs) = rw length-append (omega (arith, part-short pool (x / 256), following-short pool xs))
 
-pub says-short : (xs : List ℕ) (n : ℕ) → n ≤ length xs → length (phrase (says xs n)) ≤ 40 * n
+pub says-short : (pool xs : List ℕ) (n : ℕ) → n ≤ length xs → length (phrase (says pool xs n)) ≤ 40 * n
 unfolding says
-says-short xs n h = omega (arith, pieces-short (take n xs), length-take-le n xs h)
+says-short pool xs n h = omega (arith, pieces-short pool (take n xs), length-take-le n xs h)

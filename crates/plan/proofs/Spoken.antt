@@ -8,7 +8,6 @@ use borrow.Author.Tests.{lt-ltb, le-ltb}
 use lib.ListN.{length}
 use Rattle.base.specs.Buffer.{over}
 use Rattle.base.specs.Answer.{fitted, Answers}
-use Rattle.base.specs.declared.Answer.{Answer}
 
 module _ (xs b : List ℕ) (l : ℕ) (e : l ≡ length b) where
   pub too-long : length xs < l → Answers (record { number = 7; length = l }) xs xs (fitted xs b)

@@ -13,7 +13,7 @@ pub data Speaks : List Piece → List Word → Type 0 where
   ended : (w e : Word) {ps : List Piece} {ws : List Word} → Speaks ps ws → Speaks (word w ∷ on e ∷ ps) ((w ++ e) ∷ ws)
 
 -- the plan xs of which n are written has become ys with r written, by at most k more, which say the words ws
-pub record Told (k : ℕ) (xs : List ℕ) (n : ℕ) (ys : List ℕ) (r : ℕ) (ws : List Word) : Type 0 where
+pub record Told (pool : List ℕ) (k : ℕ) (xs : List ℕ) (n : ℕ) (ys : List ℕ) (r : ℕ) (ws : List Word) : Type 0 where
   pub pieces : List Piece
-  pub added : Added k xs n ys r pieces
+  pub added : Added pool k xs n ys r pieces
   pub speaks : Speaks pieces ws

@@ -1,44 +1,45 @@
-// Phrases: a plan is built piece by piece, measured, written, and compared with a text. Every kind of phrase goes through these functions.
+// Plans: a phrase is planned piece by piece, then measured, written, or compared with a text. Every kind of phrase goes through these functions; the
+// texts of its pieces are parts of a pool, which the caller lends.
 use base::Answer;
 ghost use mathlib.Core.Path.{_≡_};
-ghost use Prim.Native.Nat.{_+_, _*_, _≤_, _<_};
-ghost use mathlib.Core.List.{[], _∷_};
+ghost use Prim.Native.Nat.{ℕ, _+_, _*_, _≤_, _<_};
+ghost use mathlib.Core.List.{List, [], _∷_};
 ghost use lib.ListN.{length};
 ghost use Rattle.base.specs.Buffer.{over};
 ghost use Rattle.base.specs.Answer.{fitted, Answers};
 ghost use Rattle.base.specs.Decides.{Decides};
-ghost use Rattle.words.specs.Text.{text};
+ghost use Rattle.words.specs.Part.{part};
 ghost use Rattle.base.specs.Front.{passed};
 ghost use Rattle.plan.specs.Phrase.{following, phrase as phraseOf};
 ghost use Rattle.plan.specs.Plan.{pieceOf, pieces, says, Added};
 ghost use Rattle.plan.specs.Stands.{stands as standsAs};
 
 // Adds a piece to a plan of which `at` are written; returns how many are written then.
-pub fn push(plan: &mut [u32], at: usize, separator: u8, id: u16) -> usize
+pub fn push(plan: &mut [u32], at: usize, separator: u8, place: u16) -> usize
     requires { ⌜ at < length (now plan) ⌝ }
-    ensures { λ r. ⌜ Added 1 (now (plan .entry)) at (now (plan .exit)) r ((separator, text id) ∷ []) ⌝ }
+    ensures { λ r. ⌜ ((pool : List ℕ) → Added pool 1 (now (plan .entry)) at (now (plan .exit)) r ((separator, part pool place) ∷ [])) ⌝ }
 {
-    plan[at] = (id as u32) * 256 + (separator as u32);
+    plan[at] = (place as u32) * 256 + (separator as u32);
     at + 1
 }
 
 // The length of a piece with its separator.
-fn piece_len(code: u32) -> usize
-    ensures { λ r. ⌜ (r ≡ length (following (pieceOf code ∷ []))) × (r ≤ 40) ⌝ }
+fn piece_len(pool: &[u8], code: u32) -> usize
+    ensures { λ r. ⌜ (r ≡ length (following (pieceOf (now (pool .entry)) code ∷ []))) × (r ≤ 40) ⌝ }
 {
-    let n = words::len(code / 256);
+    let n = words::len(pool, code / 256);
     if code % 256 == 0 { n } else { n + 1 }
 }
 
 // The length of pieces that follow others.
-fn following_len(plan: &[u32]) -> usize
+fn following_len(pool: &[u8], plan: &[u32]) -> usize
     requires { ⌜ length (now plan) ≤ 1000 ⌝ }
-    ensures { λ r. ⌜ (r ≡ length (following (pieces (now (plan .entry))))) × (r ≤ 40 * length (now (plan .entry))) ⌝ }
+    ensures { λ r. ⌜ (r ≡ length (following (pieces (now (pool .entry)) (now (plan .entry))))) × (r ≤ 40 * length (now (plan .entry))) ⌝ }
 {
     let mut n: usize = 0;
     let mut i: usize = 0;
     while i < plan.len() {
-        let m = piece_len(plan[i]);
+        let m = piece_len(pool, plan[i]);
         n = n + m;
         i = i + 1;
     }
@@ -46,40 +47,40 @@ fn following_len(plan: &[u32]) -> usize
 }
 
 // The length of a phrase.
-fn len(plan: &[u32]) -> usize
+fn len(pool: &[u8], plan: &[u32]) -> usize
     requires { ⌜ length (now plan) ≤ 1000 ⌝ }
-    ensures { λ r. ⌜ (r ≡ length (phraseOf (pieces (now (plan .entry))))) × (r ≤ 40 * length (now (plan .entry))) ⌝ }
+    ensures { λ r. ⌜ (r ≡ length (phraseOf (pieces (now (pool .entry)) (now (plan .entry))))) × (r ≤ 40 * length (now (plan .entry))) ⌝ }
 {
     if plan.len() == 0 {
         return 0;
     }
-    let n = words::len(plan[0] / 256);
-    n + following_len(&plan[1..])
+    let n = words::len(pool, plan[0] / 256);
+    n + following_len(pool, &plan[1..])
 }
 
 // Writes a piece with its separator over the front of out.
-fn put_piece(code: u32, out: &mut [u8]) -> usize
-    requires { ⌜ length (following (pieceOf code ∷ [])) ≤ length (now out) ⌝ }
-    ensures { λ r. ⌜ (r ≡ length (following (pieceOf code ∷ []))) × (now (out .exit) ≡ over (now (out .entry)) (following (pieceOf code ∷ []))) ⌝ }
+fn put_piece(pool: &[u8], code: u32, out: &mut [u8]) -> usize
+    requires { ⌜ length (following (pieceOf (now pool) code ∷ [])) ≤ length (now out) ⌝ }
+    ensures { λ r. ⌜ (r ≡ length (following (pieceOf (now (pool .entry)) code ∷ []))) × (now (out .exit) ≡ over (now (out .entry)) (following (pieceOf (now (pool .entry)) code ∷ []))) ⌝ }
 {
     let separator = code % 256;
     if separator == 0 {
-        return words::put(code / 256, out);
+        return words::put(pool, code / 256, out);
     }
     out[0] = separator as u8;
-    let n = words::put(code / 256, &mut out[1..]);
+    let n = words::put(pool, code / 256, &mut out[1..]);
     n + 1
 }
 
 // Writes pieces that follow others; each hands on what is left of out.
-fn put_following(plan: &[u32], out: &mut [u8]) -> usize
-    requires { ⌜ length (following (pieces (now plan))) ≤ length (now out) ⌝ }
-    ensures { λ r. ⌜ (r ≡ length (following (pieces (now (plan .entry))))) × (now (out .exit) ≡ over (now (out .entry)) (following (pieces (now (plan .entry))))) ⌝ }
+fn put_following(pool: &[u8], plan: &[u32], out: &mut [u8]) -> usize
+    requires { ⌜ length (following (pieces (now pool) (now plan))) ≤ length (now out) ⌝ }
+    ensures { λ r. ⌜ (r ≡ length (following (pieces (now (pool .entry)) (now (plan .entry))))) × (now (out .exit) ≡ over (now (out .entry)) (following (pieces (now (pool .entry)) (now (plan .entry))))) ⌝ }
 {
     let mut k: usize = 0;
     let mut i: usize = 0;
     while i < plan.len() {
-        let n = put_piece(plan[i], &mut out[k..]);
+        let n = put_piece(pool, plan[i], &mut out[k..]);
         k = k + n;
         i = i + 1;
     }
@@ -87,32 +88,32 @@ fn put_following(plan: &[u32], out: &mut [u8]) -> usize
 }
 
 // Writes a phrase over the front of out.
-fn put(plan: &[u32], out: &mut [u8]) -> usize
-    requires { ⌜ length (phraseOf (pieces (now plan))) ≤ length (now out) ⌝ }
-    ensures { λ r. ⌜ (r ≡ length (phraseOf (pieces (now (plan .entry))))) × (now (out .exit) ≡ over (now (out .entry)) (phraseOf (pieces (now (plan .entry))))) ⌝ }
+fn put(pool: &[u8], plan: &[u32], out: &mut [u8]) -> usize
+    requires { ⌜ length (phraseOf (pieces (now pool) (now plan))) ≤ length (now out) ⌝ }
+    ensures { λ r. ⌜ (r ≡ length (phraseOf (pieces (now (pool .entry)) (now (plan .entry))))) × (now (out .exit) ≡ over (now (out .entry)) (phraseOf (pieces (now (pool .entry)) (now (plan .entry))))) ⌝ }
 {
     if plan.len() == 0 {
         return 0;
     }
-    let k = words::put(plan[0] / 256, out);
-    let n = put_following(&plan[1..], &mut out[k..]);
+    let k = words::put(pool, plan[0] / 256, out);
+    let n = put_following(pool, &plan[1..], &mut out[k..]);
     k + n
 }
 
 // Answers with what the first n pieces of a plan say: measured first, and written where out holds it.
-fn speak_measured(plan: &[u32], n: usize, out: &mut [u8]) -> Answer
+fn speak_measured(pool: &[u8], plan: &[u32], n: usize, out: &mut [u8]) -> Answer
     requires { ⌜ (n ≤ length (now plan)) × (n ≤ 1000) ⌝ }
-    ensures { λ r. ⌜ Answers r (now (out .entry)) (now (out .exit)) (fitted (now (out .entry)) (phraseOf (says (now (plan .entry)) n))) ⌝ }
+    ensures { λ r. ⌜ Answers r (now (out .entry)) (now (out .exit)) (fitted (now (out .entry)) (phraseOf (says (now (pool .entry)) (now (plan .entry)) n))) ⌝ }
     ensures { λ r. ⌜ r .length ≤ 40 * n ⌝ }
 {
-    let size = len(&plan[..n]);
+    let size = len(pool, &plan[..n]);
     if out.len() < size {
         return Answer {
             number: 7,
             length: size,
         };
     }
-    put(&plan[..n], out);
+    put(pool, &plan[..n], out);
     Answer {
         number: 0,
         length: size,
@@ -120,25 +121,25 @@ fn speak_measured(plan: &[u32], n: usize, out: &mut [u8]) -> Answer
 }
 
 // Answers with what the first n pieces of a plan say. No piece has more than 40 bytes, so it is measured only where out might not hold it.
-pub fn speak(plan: &[u32], n: usize, out: &mut [u8]) -> Answer
+pub fn speak(pool: &[u8], plan: &[u32], n: usize, out: &mut [u8]) -> Answer
     requires { ⌜ (n ≤ length (now plan)) × (n ≤ 1000) ⌝ }
-    ensures { λ r. ⌜ Answers r (now (out .entry)) (now (out .exit)) (fitted (now (out .entry)) (phraseOf (says (now (plan .entry)) n))) ⌝ }
+    ensures { λ r. ⌜ Answers r (now (out .entry)) (now (out .exit)) (fitted (now (out .entry)) (phraseOf (says (now (pool .entry)) (now (plan .entry)) n))) ⌝ }
     ensures { λ r. ⌜ r .length ≤ 40 * n ⌝ }
 {
     if out.len() < 40 * n {
-        return speak_measured(plan, n, out);
+        return speak_measured(pool, plan, n, out);
     }
-    let length = put(&plan[..n], out);
+    let length = put(pool, &plan[..n], out);
     Answer { number: 0, length }
 }
 
 // One more than the length of a piece with its separator, where s begins with them; else 0.
-fn pass_piece(code: u32, s: &[u8]) -> usize
-    ensures { λ r. ⌜ r ≡ passed (following (pieceOf code ∷ [])) (now (s .entry)) ⌝ }
+fn pass_piece(pool: &[u8], code: u32, s: &[u8]) -> usize
+    ensures { λ r. ⌜ r ≡ passed (following (pieceOf (now (pool .entry)) code ∷ [])) (now (s .entry)) ⌝ }
 {
     let separator = code % 256;
     if separator == 0 {
-        return words::pass(code / 256, s);
+        return words::pass(pool, code / 256, s);
     }
     if s.len() == 0 {
         return 0;
@@ -146,18 +147,18 @@ fn pass_piece(code: u32, s: &[u8]) -> usize
     if s[0] as u32 != separator {
         return 0;
     }
-    let n = words::pass(code / 256, &s[1..]);
+    let n = words::pass(pool, code / 256, &s[1..]);
     if n == 0 { 0 } else { n + 1 }
 }
 
 // Whether s is made of these pieces, which follow others; each turn hands on the part of s after the pieces before it.
-fn stand_following(plan: &[u32], s: &[u8]) -> bool
-    ensures { λ r. ⌜ r ≡ standsAs (pieces (now (plan .entry))) (now (s .entry)) ⌝ }
+fn stand_following(pool: &[u8], plan: &[u32], s: &[u8]) -> bool
+    ensures { λ r. ⌜ r ≡ standsAs (pieces (now (pool .entry)) (now (plan .entry))) (now (s .entry)) ⌝ }
 {
     let mut k: usize = 0;
     let mut i: usize = 0;
     while i < plan.len() {
-        let n = pass_piece(plan[i], &s[k..]);
+        let n = pass_piece(pool, plan[i], &s[k..]);
         if n == 0 {
             return false;
         }
@@ -168,16 +169,16 @@ fn stand_following(plan: &[u32], s: &[u8]) -> bool
 }
 
 // Whether s is the phrase of a plan.
-pub fn stands(plan: &[u32], s: &[u8]) -> bool
-    ensures { λ r. ⌜ Decides r (phraseOf (pieces (now (plan .entry))) ≡ now (s .entry)) ⌝ }
+pub fn stands(pool: &[u8], plan: &[u32], s: &[u8]) -> bool
+    ensures { λ r. ⌜ Decides r (phraseOf (pieces (now (pool .entry)) (now (plan .entry))) ≡ now (s .entry)) ⌝ }
 {
     if plan.len() == 0 {
         return s.len() == 0;
     }
-    let n = words::pass(plan[0] / 256, s);
+    let n = words::pass(pool, plan[0] / 256, s);
     if n == 0 {
         return false;
     }
     let k = n - 1;
-    stand_following(&plan[1..], &s[k..])
+    stand_following(pool, &plan[1..], &s[k..])
 }

@@ -12,7 +12,8 @@ use Rattle.uk.specs.Settings.{unlessSettings}
 use Rattle.uk_calls.specs.Cardinals.{refusedCardinal, cardinal, Means}
 use Rattle.uk_ordinal_calls.specs.Calls.{refusedOrdinal, ordinalPhrase, yearPhrase}
 use Rattle.uk_money_calls.specs.MoneyCalls.{refusedAmount, moneyPhrase}
-use Rattle.fr_calls.specs.Calls.{french, firstRefusal, cardinalRefusal, ordinalRefusal, cardinalOf, ordinalOf}
+use Rattle.fr.specs.Settings.{french}
+use Rattle.fr_calls.specs.Calls.{firstRefusal, cardinalRefusal, ordinalRefusal, cardinalOf, ordinalOf}
 
 -- a spelling call: its settings, in the calls' order, and what it is given
 pub data Call : Type 0 where

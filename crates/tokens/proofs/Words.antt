@@ -9,9 +9,9 @@ use native.Mathlib.Numerals.{add-one}
 use borrow.Author.Tests.{not-true}
 use lib.ListN.{length, getD, drop, drop-of-length-le}
 use lib.Seq.{drop-cons}
-use Rattle.tables.proofs.Tests.{clash, clash-of, both-hold}
+use Rattle.tables.proofs.Tests.{clash-of, both-hold}
 use Rattle.base.specs.Join.{Word, spaced, joined}
-use Rattle.tokens.specs.Tokens.{isGap, firstWord, afterWord, toFirst, split, keyFrom, key, Begun, Took, Turned}
+use Rattle.tokens.specs.Tokens.{isGap, firstWord, afterWord, toFirst, split, keyFrom, key, Begun, Took}
 
 -- a text that is not empty begins with its first word
 pub split-first : (s : List ℕ) → 0 < length s → split s ≡ firstWord s ∷ split (afterWord s)
@@ -101,16 +101,3 @@ module _ (s : List ℕ) (i k : ℕ) (l : k < 65536) (b : Begun s i k) where
 
   pub begun-on : (m n : ℕ) → n ≡ i + 1 → m ≡ (k * 371 + getD s i 0) % 65536 → i < length s → isGap (getD s i 0) ≡ false → Begun s n m
   begun-on m n e f h g = rw (e, f) (word-goes-on s i h k (b .0) (b .1) g)
-
-  pub turned-gap : i < length s → isGap (getD s i 0) ≡ true → Turned s i 1 true k (i + 1)
-  turned-gap h g = record { small = l; ends = λ _. took-gap (i + 1) refl h g; goes-on = clash }
-
-  pub turned-on : (m : ℕ) → m ≡ (k * 371 + getD s i 0) % 65536 → m < 65536 → i < length s → isGap (getD s i 0) ≡ false → Turned s i 1 false m (i + 1)
-  turned-on m f d h g = record { small = d; ends = clash-of; goes-on = λ _. begun-on m (i + 1) refl f h g }
-
--- bytes among which the word has ended, however many more are meant; and bytes after bytes
-pub turned-ended : {s : List ℕ} {i n k m : ℕ} {e : Bool} (q : ℕ) → Turned s i n e k m → e ≡ true → Turned s i q e k m
-turned-ended q t y = record { small = t .small; ends = t .ends; goes-on = λ f. let z : _≡_ {A = ℕ} 0 1 = cc in absurd (omega arith) }
-
-pub turned-more : {s : List ℕ} {k m : ℕ} {e : Bool} (i n p q : ℕ) → Turned s (i + n) p e k m → n + p ≡ q → Turned s i q e k m
-turned-more i n p q t y = let z : i + n + p ≡ i + q = omega arith in record { small = t .small; ends = t .ends; goes-on = λ f. rw z at (t .goes-on f) }

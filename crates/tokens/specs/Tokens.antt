@@ -3,7 +3,7 @@
 -- Assumes nothing.
 use Prim.Native.Nat.{ℕ, _+_, _*_, _%_, _<_, _≤_}
 use mathlib.Core.Path.{_≡_}
-use mathlib.Core.Bool.{Bool, true, false, cond, _||_}
+use mathlib.Core.Bool.{Bool, cond, _||_}
 use mathlib.Core.List.{List, [], _∷_}
 use lib.Dec.{eqb}
 use lib.ListN.{length, drop}
@@ -49,9 +49,3 @@ Begun s i k = (key (firstWord s) ≡ keyFrom k (firstWord (drop i s))) × (after
 -- k is the key of the first word of s, and the next word starts at n
 abbrev pub Took : List ℕ → ℕ → ℕ → Type 0
 Took s k n = ((k ≡ key (firstWord s)) × (k < 65536)) × ((drop n s ≡ afterWord s) × (n ≤ length s) × (0 < length s → 0 < n))
-
--- n bytes from i on were looked at: the word ended among them, or goes on
-pub record Turned (s : List ℕ) (i n : ℕ) (ended : Bool) (k next : ℕ) : Type 0 where
-  pub small : k < 65536
-  pub ends : ended ≡ true → Took s k next
-  pub goes-on : ended ≡ false → Begun s (i + n) k

@@ -1,5 +1,5 @@
-pub mod Ids
-pub mod Columns
-pub mod Numbers
+pub mod Listed
+pub mod Tables
 pub mod Unique
+pub mod Numbers
 pub mod Ranges

@@ -1,13 +1,13 @@
 -- A number has one sentence: what the speller spells is the only phrase of its value.
 -- Assumes nothing.
-use mathlib.Core.Path.{_≡_, refl, sym, _∙_, ap, subst}
-use mathlib.Core.List.{List, [], _∷_, _++_}
-use Prim.Native.Nat.{ℕ, zero, suc, _+_, _*_, _/_, _%_, _^_, _<_, _≤_}
+use mathlib.Core.Path.{_≡_, refl, sym, _∙_, ap}
+use mathlib.Core.List.{List, []}
+use Prim.Native.Nat.{ℕ, zero, suc, _+_, _*_, _/_, _%_, _^_, _<_}
 use native.Mathlib.Nat.{pow-succ', zero-mul, zero-add}
 use native.Mathlib.Omega.{arith}
 use lib.Arith.{digits-lt, digits-div, digits-mod}
 use Rattle.base.specs.Join.{Word}
-use Rattle.uk.specs.Rules.{Words, groupWords}
+use Rattle.uk.specs.Rules.{Words}
 use Rattle.uk.specs.Grammar.{Falling, end, skip, group as group-of}
 
 module _ (W : Words) where

@@ -4,4 +4,4 @@ pub mod Rules
 pub mod Ukrainian
 pub mod Cardinal
 pub mod Grammar
-pub mod Columns
+pub mod Pool

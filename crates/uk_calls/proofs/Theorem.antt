@@ -1,15 +1,14 @@
 -- Demand 3 for Ukrainian cardinals, over the definitions: `readable` below, under any settings in their ranges.
 -- Assumes nothing.
-use Prim.Native.Nat.{ℕ, _^_, _≤_, _<_}
+use Prim.Native.Nat.{ℕ, _<_}
 use mathlib.Core.Path.{_≡_, refl, sym, ap, _∙_, subst}
-use mathlib.Core.Bool.{Bool, true, false}
+use mathlib.Core.Bool.{Bool}
 use mathlib.Core.List.{List}
 use native.Mathlib.Omega.{arith}
 use lib.Dec.{eqb}
-use lib.ListN.{length}
 use Rattle.base.specs.Join.{joined}
 use Rattle.base.specs.Claim.{Readable}
-use Rattle.figures.specs.Text.{value, negative, unsigned, wellFormed, signedText}
+use Rattle.figures.specs.Text.{value, negative, unsigned, signedText}
 use Rattle.figures.specs.Groups.{groupsOf}
 use Rattle.figures.proofs.Laws.Digits.{thousand}
 use Rattle.figures.proofs.Laws.Plain.{plain-digits}

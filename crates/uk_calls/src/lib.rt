@@ -28,10 +28,11 @@ fn spell(settings: Settings, text: &[u8], out: &mut [u8]) -> Answer
 {
     let zero = figures::is_zero(text);
     let minus = figures::is_negative(text);
-    let gs = groups::groups22(figures::after_sign(text));
+    let digits = figures::after_sign(text);
+    let gs = groups::groups22(digits);
     let mut plan = [0u32; 112];
-    let n = uk_plan::plan_cardinal(settings, zero, minus, &gs, &mut plan);
-    plan::speak(&plan, n, out)
+    let n = uk_plan::plan_cardinal(settings, zero, minus, groups::count(digits), &gs, &mut plan);
+    uk::speak(&plan, n, out)
 }
 
 // Any bytes, read under settings in their ranges.
@@ -54,10 +55,7 @@ pub fn to_cardinal(gender: u32, number: u32, case: u32, text: &[u8], out: &mut [
         let settings = uk::settings_of(gender, number, case);
         spell(settings, text, out)
     } else {
-        Answer {
-            number: n,
-            length: 0,
-        }
+        base::refused(n)
     }
 }
 
@@ -69,9 +67,6 @@ pub fn from_cardinal(gender: u32, number: u32, case: u32, said: &[u8], out: &mut
         let settings = uk::settings_of(gender, number, case);
         read(settings, said, out)
     } else {
-        Answer {
-            number: 1,
-            length: 0,
-        }
+        base::refused(1)
     }
 }

@@ -1,23 +1,23 @@
 -- The words of an amount are an amount with its whole part and hundredths by the grammar, and every amount by the grammar has these words.
 -- Assumes nothing.
-use Prim.Native.Nat.{ℕ, zero, suc, _+_, _*_, _/_, _%_, _^_, _<_, _≤_}
+use Prim.Native.Nat.{ℕ, zero, suc, _/_, _%_, _^_, _<_, _≤_}
 use mathlib.Core.Path.{_≡_, refl, sym, ap, _∙_, subst}
 use mathlib.Core.Bool.{Bool, true, false}
-use mathlib.Core.List.{List, [], _∷_, _++_}
+use mathlib.Core.List.{List, [], _∷_}
 use native.Mathlib.Nat.{mod-eq-of-lt, div-one, div-eq-of-lt, lt-of-lt-of-le, lt-of-le-of-lt, pow-le-pow-right}
 use native.Mathlib.Omega.{arith}
-use borrow.Author.Tests.{eqb-true, eqb-false, eq-eqb, ne-eqb}
+use borrow.Author.Tests.{eqb-true, eqb-false, ne-eqb}
 use lib.Dec.{eqb, lit<, lit≤}
 use lib.ListN.{getD}
 use Rattle.base.specs.Join.{Word}
 use Rattle.figures.specs.Money.{moneyLimit}
 use Rattle.uk.specs.Rules.{Words}
-use Rattle.uk.specs.Ukrainian.{ukrainian, agreedNumber, agreedCase}
+use Rattle.uk.specs.Ukrainian.{ukrainian}
 use Rattle.uk.specs.Cardinal.{groupsBelow, cardinalWords}
 use Rattle.uk.specs.Grammar.{Falling, Sentence, zero-word, plain, negative}
 use Rattle.uk.proofs.Numbers.{number-falls}
 use Rattle.uk.proofs.Unique.{falling-below, one-phrase}
-use Rattle.uk_money.specs.Nouns.{Name, nameForms}
+use Rattle.uk_money.specs.Nouns.{Name}
 use Rattle.uk_money.specs.Currencies.{Currency}
 use Rattle.uk_money.specs.Money.{agreedName, countWords, moneyWords}
 use Rattle.uk_money.specs.MoneyGrammar.{Counted, counted, Amount, whole, hundredths, both}
@@ -50,11 +50,6 @@ module _ (W : Words) (n : ℕ) (gs : List ℕ) (g : Holds n gs) (l : n < 1000 ^ 
       go false e = plain falls (omega (arith, eqb-false n 0 e))
 
 module _ (W : Words) where
-  pub sentence-below : {ws : List Word} {b : Bool} {n : ℕ} → Sentence W ws b n → n < 1000 ^ 22
-  sentence-below zero-word = lit< tt
-  sentence-below (plain f p) = falling-below W f
-  sentence-below (negative f p) = falling-below W f
-
   -- a sentence without a minus has the words of its number
   cardinal-is : {ws : List Word} {b : Bool} {n : ℕ} → Sentence W ws b n → b ≡ false → (gs : List ℕ) → Holds n gs → ws ≡ cardinalWords W (eqb n 0) false gs
   unfolding cardinalWords

@@ -6,7 +6,6 @@ use mathlib.Core.Path.{_≡_, refl, sym, _∙_}
 use mathlib.Core.Bool.{Bool, true, not}
 use native.Mathlib.Omega.{arith}
 use borrow.Author.Tests.{not-true}
-use lib.ListN.{getD}
 use Rattle.base.specs.Join.{Word, joined}
 use Rattle.base.specs.Utf8.{form2}
 use Rattle.base.specs.Same.{sameText}

@@ -1,4 +1,4 @@
-pub mod Tables
+pub mod Listed
 pub mod Keys
 pub mod Names
 pub mod Apart

@@ -1,5 +1,5 @@
--- The code's row of a unit's name: the numbers of its adjective's stem, 0 for none, of its noun's stem, of its noun's class, and its gender;
--- and a code as one number. These only tie the code to the tables.
+-- The code's row of a unit's name: the places of its adjective's stem, 0 for none, and of its noun's, the number of the noun's class, and the
+-- gender; and a code as one number. These only tie the code to the tables.
 -- Assumes nothing.
 use Prim.Native.Nat.{ℕ, zero, suc, _+_, _*_, _<_}
 use mathlib.Core.Path.{_≡_}
@@ -7,9 +7,11 @@ use mathlib.Core.Bool.{cond}
 use mathlib.Core.List.{List, [], _∷_, _++_}
 use lib.Dec.{eqb}
 use lib.ListN.{getD}
-use Rattle.base.specs.Utf8.{utf8}
-use Rattle.bank_money.specs.Names.{names}
-use Rattle.uk_money.specs.Nouns.{Class, hard2, soft2, vowel1, hard1, adj, fixed, hryvnia, kopiyka, Noun, noun, Name}
+use Rattle.base.specs.Join.{Word}
+use Rattle.base.specs.Utf8.{utf8, form2}
+use Rattle.words.specs.Part.{part}
+use Rattle.uk.specs.Pool.{ukPool}
+use Rattle.uk_money.specs.Nouns.{Class, hard2, soft2, vowel1, hard1, adj, fixed, hryvnia, kopiyka, endings, Name, nameForms}
 use Rattle.uk_money.specs.Currencies.{Currency}
 
 -- the classes by their numbers
@@ -20,22 +22,21 @@ classes = hard2 ∷ soft2 ∷ vowel1 ∷ hard1 ∷ adj ∷ fixed ∷ hryvnia ∷
 abbrev pub classAt : ℕ → Class
 classAt k = getD classes k hard2
 
--- the adjective of a row, if any
-abbrev pub adjectiveIn : ℕ → List Noun
-adjectiveIn zero = []
-adjectiveIn (suc a) = noun (getD names (suc a) "") adj ∷ []
+-- the adjective of a row by grammatical number and case, if it has one
+abbrev pub adjectiveIn : ℕ → ℕ → ℕ → List Word
+adjectiveIn zero number case = []
+adjectiveIn (suc a) number case = (part ukPool (suc a) ++ form2 (endings adj) number case) ∷ []
 
 -- the words of a row: the adjective, and the noun
-abbrev pub wordsIn : List ℕ → List Noun
-wordsIn row = adjectiveIn (getD row 0 0) ++ noun (getD names (getD row 1 0) "") (classAt (getD row 2 0)) ∷ []
+abbrev pub formsIn : List ℕ → ℕ → ℕ → List Word
+formsIn row number case =
+    adjectiveIn (getD row 0 0) number case ++
+    ((part ukPool (getD row 1 0) ++ form2 (endings (classAt (getD row 2 0))) number case) ∷ [])
 
--- its name
-abbrev pub nameIn : List ℕ → Name
-nameIn row = record { gender = getD row 3 0; words = wordsIn row }
-
--- the row has this name, and its numbers are in their ranges
+-- the row has a name's gender and words, and its numbers are in their ranges
 pub record Row (name : Name) (row : List ℕ) : Type 0 where
-  pub named : name ≡ nameIn row
+  pub gender : name .gender ≡ getD row 3 0
+  pub forms : nameForms name ≡ formsIn row
   pub classes : getD row 2 0 < 8
   pub genders : getD row 3 0 < 3
 

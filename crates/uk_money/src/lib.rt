@@ -1,17 +1,24 @@
-// Ukrainian money: the currency of a code, and the numbers of the stems and endings of its nouns. Speller and reader see the contracts alone.
-mod codes;
-mod rows;
+// Ukrainian money: the currency of a code, and the places of the stems and endings of its nouns. Speller and reader see the contracts alone.
+mod codes; // codes.rt: the 44 codes
+mod places; // places.rt: the nouns' tables, with the place of each text
 
 ghost use mathlib.Core.Path.{_≡_};
-ghost use Prim.Native.Nat.{_+_, _*_, _/_, _%_, _≤_, _<_};
+ghost use Prim.Native.Nat.{_/_, _%_, _≤_, _<_};
 ghost use lib.ListN.{length};
 ghost use Rattle.base.specs.Utf8.{form2};
-ghost use Rattle.words.specs.Text.{text};
+ghost use Rattle.words.specs.Part.{part};
+ghost use Rattle.uk.specs.Pool.{ukPool};
 ghost use Rattle.uk.specs.Ukrainian.{agreedNumber, agreedCase};
 ghost use Rattle.uk_money.specs.Nouns.{endings};
 ghost use Rattle.uk_money.specs.Currencies.{currencyAt};
 ghost use Rattle.uk_money.specs.Codes.{placeOf};
 ghost use Rattle.uk_money.specs.Rows.{classAt, Row, codeKey};
+
+// How many currencies there are; also what stands for none.
+pub const CURRENCIES: usize = 44;
+
+// The bytes of the longest code.
+const LONGEST: usize = 6;
 
 // A code as one number, its first byte the lowest.
 fn code_key(code: &[u8]) -> u64
@@ -28,55 +35,45 @@ fn code_key(code: &[u8]) -> u64
     key
 }
 
-// The place of the currency with this code, or 44 where it is no code.
+// The place of the currency with this code, or CURRENCIES where it is no code.
 pub fn code_of(code: &[u8]) -> usize
     ensures { λ r. ⌜ r ≡ placeOf (now (code .entry)) ⌝ }
 {
-    if 6 < code.len() {
-        return 44;
+    if LONGEST < code.len() {
+        return CURRENCIES;
     }
     codes::place(code_key(code))
 }
 
 // The row of the name of a currency's main unit.
-pub fn main_row(currency: usize) -> [u8; 4]
+pub fn main_row(currency: usize) -> [u16; 4]
     requires { ⌜ currency < 44 ⌝ }
     ensures { λ r. ⌜ Row (currencyAt currency .main) r ⌝ }
 {
-    rows::MAIN[currency]
+    places::MAIN[currency]
 }
 
 // The row of the name of its fraction.
-pub fn fraction_row(currency: usize) -> [u8; 4]
+pub fn fraction_row(currency: usize) -> [u16; 4]
     requires { ⌜ currency < 44 ⌝ }
     ensures { λ r. ⌜ Row (currencyAt currency .fraction) r ⌝ }
 {
-    rows::FRACTION[currency]
+    places::FRACTION[currency]
 }
 
 // Where a form stands that agrees with a count that ends in these digits: singular, then plural, each by case.
 pub fn agreed(t: usize, u: usize, case: usize) -> usize
     requires { ⌜ case < 6 ⌝ }
-    ensures { λ r. ⌜ r ≡ 6 * agreedNumber t u + agreedCase t u case ⌝ }
+    ensures { λ r. ⌜ (r < 12) × (r / 6 ≡ agreedNumber t u) × (r % 6 ≡ agreedCase t u case) ⌝ }
 {
-    let a = uk::agreement(t, u);
-    if a == 0 {
-        return case;
-    }
-    if a == 1 {
-        return 6 + case;
-    }
-    if case == 0 {
-        return 7;
-    }
-    6 + case
+    let a = uk::agreement(case, t, u);
+    6 * a.number + a.case
 }
 
-// The number of an ending, by class and the place of the form.
-pub fn ending(class: usize, place: usize) -> u8
+// The place of an ending, by class and where the form stands.
+pub fn ending(class: usize, place: usize) -> u16
     requires { ⌜ (class < 8) × (place < 12) ⌝ }
-    ensures { λ r. ⌜ text (512 + r) ≡ form2 (endings (classAt class)) (place / 6) (place % 6) ⌝ }
+    ensures { λ r. ⌜ part ukPool r ≡ form2 (endings (classAt class)) (place / 6) (place % 6) ⌝ }
 {
-    let row = rows::ENDINGS[class];
-    row[place]
+    places::ENDINGS[class][place]
 }

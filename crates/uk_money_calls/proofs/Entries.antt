@@ -18,7 +18,7 @@ use Rattle.uk_money.specs.Currencies.{Currency}
 use Rattle.uk_money.specs.Codes.{placeOf}
 use Rattle.uk_money.specs.Money.{moneyWords}
 use Rattle.uk_money_read.specs.Promise.{ReadMoney}
-use Rattle.uk_money_read.specs.declared.Seen.the-variants.{Refused, Amount}
+use Rattle.uk_money_read.specs.declared.Reading.the-variants.{Refused, Amount}
 use Rattle.uk_money_calls.specs.MoneyCalls.{refusedText, refusedCode, refusedAmount, moneyPhrase, Means}
 
 -- what is said of the text's parts is said of the text

@@ -1,25 +1,24 @@
 -- Money texts by their parts: an admitted text's whole part and hundredths, and the text of a whole part and hundredths.
 -- Assumes nothing.
-use Prim.Native.Nat.{ℕ, zero, suc, _+_, _-_, _%_, _^_, _≤_, _<_}
-use native.Mathlib.Nat.{mod-eq-of-lt, lt-of-le-of-lt, lt-of-lt-of-le, le-trans, pow-le-pow-right}
+use Prim.Native.Nat.{ℕ, zero, suc, _+_, _-_, _^_, _≤_, _<_}
+use native.Mathlib.Nat.{mod-eq-of-lt, lt-of-le-of-lt, le-trans, pow-le-pow-right}
 use native.Mathlib.Decide.{ℕ-discrete}
 use native.Mathlib.Omega.{arith}
 use mathlib.Core.Path.{_≡_, refl, sym, ap, _∙_}
 use mathlib.Core.Bool.{Bool, true, false, cond, not, _&&_, and-eq-true-iff}
 use mathlib.Core.List.{List, [], _∷_, _++_, append-assoc}
-use lib.Dec.{leb, ltb, eqb, lit<}
+use lib.Dec.{leb, eqb, lit<}
 use lib.ListN.{length, getD, take, drop, length-take, length-append}
 use lib.Seq.{take-at, drop-at, getD-append-seam}
 use borrow.Author.Tests.{ne-eqb, eq-eqb, le-leb, leb-true, leb-false}
-use Rattle.figures.specs.Text.{digit, digits, plain, value, negative, unsigned, wellFormed, fixed, text, signedText}
+use Rattle.figures.specs.Text.{digits, plain, value, negative, unsigned, wellFormed, fixed, text}
 use Rattle.figures.specs.Money.{pointed, wholeText, hundredthsText, hundredths, moneyFormed, moneyText, moneyLimit}
-use Rattle.figures.specs.Refusals.{refusalOf, judged, judgeMoney}
-use Rattle.figures.specs.declared.Judged.the-variants.{Fine}
+use Rattle.figures.specs.Refusals.{refusalOf, judgeMoney}
 use Rattle.figures.proofs.Laws.Digits.{value-lt, digits-at, digit-low}
 use Rattle.figures.proofs.Laws.Plain.{plain-digits, plain-least}
 use Rattle.figures.proofs.Laws.Text.{fixed-digits, value-fixed, text-some}
 use Rattle.figures.proofs.Laws.Sign.{unsigned-plain, formed-unsigned, Signed, signed-text}
-use Rattle.figures.proofs.Laws.Money.{pointed-size, hundredths-size, money-pointed, money-plain, whole-plain, money-some, money-none}
+use Rattle.figures.proofs.Laws.Money.{hundredths-size, money-pointed, money-plain, whole-plain, money-some, money-none}
 use Rattle.figures.proofs.Laws.Refusals.{number-zero, admitted, none-refused}
 use Rattle.figures.proofs.Laws.Round.{money-round}
 use Rattle.uk_money_calls.specs.MoneyCalls.{Admitted}
@@ -91,9 +90,12 @@ module _ (t : List ℕ) (p : Parts t) where
           let z : moneyLimit < 10 ^ 20 = lit< tt in
           absurd (omega (arith, le-trans q (le-trans a l), z))
 
+  pub whole-few : length (unsigned (wholeText t)) ≤ 20
+  whole-few = few (unsigned (wholeText t)) (whole-plain t (p .formed)) (p .within)
+
   short : length t ≤ 102
   short =
-      let w = few (unsigned (wholeText t)) (whole-plain t (p .formed)) (p .within) in
+      let w = whole-few in
       let e = size-plain (wholeText t) whole-sign in
       go (pointed t) refl (omega arith)
     where

@@ -1,8 +1,9 @@
 // Ukrainian money from bytes to bytes, both ways: settings, code, text, sign, size and room are checked in 01's order. No phrase has more than
 // 12,320 bytes: the program keeps that much room for an answer.
 use base::Answer;
-use uk_money_read::Seen;
 use uk::Settings;
+use uk_money::CURRENCIES;
+use uk_money_read::Reading;
 ghost use Prim.Native.Nat.{_≤_, _<_};
 ghost use Rattle.base.specs.Answer.{fitted, replied, Answers, Reads as ReadsAs, ReadsUnless};
 ghost use Rattle.uk_money.specs.Currencies.{currencyAt};
@@ -17,11 +18,13 @@ fn spell(settings: Settings, currency: usize, text: &[u8], out: &mut [u8]) -> An
 {
     let whole = figures::money::whole_part(text);
     let zero = figures::is_zero(whole);
-    let gs = groups::groups22(figures::after_sign(whole));
+    let digits = figures::after_sign(whole);
+    let gs = groups::groups22(digits);
+    let n = groups::count(digits);
     let hundredths = figures::value_of(figures::money::hundredths_part(text)) as u32;
-    let mut plan = [0u32; 230];
-    let n = uk_money_plan::plan_money(settings, currency, zero, &gs, hundredths, &mut plan);
-    plan::speak(&plan, n, out)
+    let mut plan = [0u32; 52];
+    let k = uk_money_plan::plan_money(settings, currency, zero, n, &gs, hundredths, &mut plan);
+    uk::speak(&plan, k, out)
 }
 
 // Any bytes, read under settings in their ranges for a currency.
@@ -30,13 +33,10 @@ fn read(settings: Settings, currency: usize, said: &[u8], out: &mut [u8]) -> Ans
     ensures { λ r. ⌜ ReadsAs (Means (currencyAt currency) (settings .case)) (now (said .entry)) r (now (out .entry)) (now (out .exit)) ⌝ }
 {
     let mut gs = [0u16; 22];
-    let seen = uk_money_read::read_money(settings, currency, said, &mut gs);
-    match seen {
-        Seen::Refused => Answer {
-            number: 6,
-            length: 0,
-        },
-        Seen::Amount(h) => numerals::money::put_money_text(&gs, h, out),
+    let reading = uk_money_read::read_money(settings, currency, said, &mut gs);
+    match reading {
+        Reading::Refused => base::refused(6),
+        Reading::Amount(h) => numerals::money::put_money_text(&gs, h, out),
     }
 }
 
@@ -54,26 +54,17 @@ pub fn to_currency(
 {
     if uk::in_range(gender, number, case) {
         let currency = uk_money::code_of(code);
-        if currency < 44 {
+        if currency < CURRENCIES {
             let n = figures::refusals::number_of(figures::refusals::judge_money(text));
             if n == 0 {
                 let settings = uk::settings_of(gender, number, case);
                 return spell(settings, currency, text, out);
             }
-            return Answer {
-                number: n,
-                length: 0,
-            };
+            return base::refused(n);
         }
-        return Answer {
-            number: 2,
-            length: 0,
-        };
+        return base::refused(2);
     }
-    Answer {
-        number: 1,
-        length: 0,
-    }
+    base::refused(1)
 }
 
 // The money text of an amount.
@@ -89,17 +80,11 @@ pub fn from_currency(
 {
     if uk::in_range(gender, number, case) {
         let currency = uk_money::code_of(code);
-        if currency < 44 {
+        if currency < CURRENCIES {
             let settings = uk::settings_of(gender, number, case);
             return read(settings, currency, said, out);
         }
-        return Answer {
-            number: 2,
-            length: 0,
-        };
+        return base::refused(2);
     }
-    Answer {
-        number: 1,
-        length: 0,
-    }
+    base::refused(1)
 }

@@ -1,68 +1,58 @@
 // The plan of an amount of Ukrainian money, from the groups of its whole part, lowest order first, and its hundredths.
 use plan::push;
+use uk::Settings;
 use uk_plan::ON;
 use uk_plan::SPACE;
-use uk::Settings;
 ghost use mathlib.Core.Path.{_≡_};
 ghost use mathlib.Core.Bool.{false};
-ghost use mathlib.Core.List.{[], _∷_, _++_, map};
-ghost use Prim.Native.Nat.{_+_, _/_, _%_, _≤_, _<_};
+ghost use mathlib.Core.List.{[], _∷_, _++_};
+ghost use Prim.Native.Nat.{_+_, _*_, _/_, _%_, _≤_, _<_};
 ghost use lib.ListN.{length, getD};
 ghost use Rattle.base.specs.Join.{joined};
-ghost use Rattle.base.specs.Utf8.{utf8};
-ghost use Rattle.bank_money.specs.Names.{names};
-ghost use Rattle.words.specs.Text.{text};
+ghost use Rattle.groups.specs.Highest.{ZeroFrom};
+ghost use Rattle.words.specs.Part.{part};
 ghost use Rattle.plan.specs.Phrase.{phrase};
 ghost use Rattle.plan.specs.Plan.{says};
 ghost use Rattle.plan.specs.Speaks.{Told};
-ghost use Rattle.uk_money.specs.Nouns.{formOf};
+ghost use Rattle.uk.specs.Pool.{ukPool};
+ghost use Rattle.uk_money.specs.Nouns.{Name};
 ghost use Rattle.uk_money.specs.Currencies.{currencyAt};
 ghost use Rattle.uk_money.specs.Money.{agreedName, countWords, moneyWords};
-ghost use Rattle.uk_money.specs.Rows.{adjectiveIn, nameIn};
+ghost use Rattle.uk_money.specs.Rows.{adjectiveIn, Row};
 
-// A number among the texts of the currency nouns, as a number among all.
-fn noun_text(id: u8) -> u16
-    ensures { λ r. ⌜ r ≡ 512 + id ⌝ }
-{
-    512 + id as u16
-}
-
-fn wide(x: u16) -> usize
-    ensures { λ r. ⌜ r ≡ x ⌝ }
-{
-    x as usize
-}
+// The number of the adjectives' class.
+const ADJECTIVE: usize = 4;
 
 // Adds a word of a stem and an ending to the plan; one of them may be empty.
-fn say_form(stem: u8, end: u8, plan: &mut [u32], at: usize) -> usize
+fn say_form(stem: u16, end: u16, plan: &mut [u32], at: usize) -> usize
     requires { ⌜ at + 2 ≤ length (now plan) ⌝ }
-    ensures { λ r. ⌜ Told 2 (now (plan .entry)) at (now (plan .exit)) r ((utf8 (getD names stem "") ++ text (512 + end)) ∷ []) ⌝ }
+    ensures { λ r. ⌜ Told ukPool 2 (now (plan .entry)) at (now (plan .exit)) r ((part ukPool stem ++ part ukPool end) ∷ []) ⌝ }
 {
     if stem == 0 {
-        return push(plan, at, SPACE, noun_text(end));
+        return push(plan, at, SPACE, end);
     }
     if end == 0 {
-        return push(plan, at, SPACE, noun_text(stem));
+        return push(plan, at, SPACE, stem);
     }
-    let k = push(plan, at, SPACE, noun_text(stem));
-    push(plan, k, ON, noun_text(end))
+    let k = push(plan, at, SPACE, stem);
+    push(plan, k, ON, end)
 }
 
 // The adjective of a name with this stem, if it has one.
-fn say_adjective(stem: u8, place: usize, plan: &mut [u32], at: usize) -> usize
+fn say_adjective(stem: u16, place: usize, plan: &mut [u32], at: usize) -> usize
     requires { ⌜ (place < 12) × (at + 2 ≤ length (now plan)) ⌝ }
-    ensures { λ r. ⌜ Told 2 (now (plan .entry)) at (now (plan .exit)) r (map (λ n. formOf n (place / 6) (place % 6)) (adjectiveIn stem)) ⌝ }
+    ensures { λ r. ⌜ Told ukPool 2 (now (plan .entry)) at (now (plan .exit)) r (adjectiveIn stem (place / 6) (place % 6)) ⌝ }
 {
     if stem == 0 {
         return at;
     }
-    say_form(stem, uk_money::ending(4, place), plan, at)
+    say_form(stem, uk_money::ending(ADJECTIVE, place), plan, at)
 }
 
 // The name of a row, as it agrees with the count n.
-fn say_name(row: &[u8; 4], case: usize, n: usize, plan: &mut [u32], at: usize) -> usize
+fn say_name(row: &[u16; 4], case: usize, n: usize, plan: &mut [u32], at: usize) -> usize
     requires { ⌜ (getD (now row) 2 0 < 8) × (case < 6) × (at + 4 ≤ length (now plan)) ⌝ }
-    ensures { λ r. ⌜ Told 4 (now (plan .entry)) at (now (plan .exit)) r (agreedName (nameIn (now (row .entry))) case n) ⌝ }
+    ensures { λ r. ⌜ ((name : Name) → Row name (now (row .entry)) → Told ukPool 4 (now (plan .entry)) at (now (plan .exit)) r (agreedName name case n)) ⌝ }
 {
     let place = uk_money::agreed(n / 10 % 10, n % 10, case);
     let k = say_adjective(row[0], place, plan, at);
@@ -70,25 +60,26 @@ fn say_name(row: &[u8; 4], case: usize, n: usize, plan: &mut [u32], at: usize) -
     say_form(row[1], uk_money::ending(class, place), plan, k)
 }
 
-// A count of the unit with this row: the cardinal and the name.
+// A count of n orders of the unit with this row: the cardinal and the name.
 fn say_count(
-    row: &[u8; 4],
+    row: &[u16; 4],
     case: usize,
     zero: bool,
+    n: usize,
     gs: &[u16; 22],
     plan: &mut [u32],
     at: usize,
 ) -> usize
-    requires { ⌜ (getD (now row) 2 0 < 8) × (getD (now row) 3 0 < 3) × (case < 6) × (at + 115 ≤ length (now plan)) ⌝ }
-    ensures { λ r. ⌜ Told 115 (now (plan .entry)) at (now (plan .exit)) r (countWords (nameIn (now (row .entry))) case zero (now (gs .entry))) ⌝ }
+    requires { ⌜ (getD (now row) 2 0 < 8) × (getD (now row) 3 0 < 3) × (case < 6) × (n ≤ 22) × ZeroFrom (now gs) n × (at + (5 * n + 5) ≤ length (now plan)) ⌝ }
+    ensures { λ r. ⌜ ((name : Name) → Row name (now (row .entry)) → Told ukPool (5 * n + 5) (now (plan .entry)) at (now (plan .exit)) r (countWords name case zero (now (gs .entry)))) ⌝ }
 {
     let settings = Settings {
         gender: row[3] as usize,
         number: 0,
         case,
     };
-    let k = uk_plan::say_cardinal(settings, zero, false, gs, plan, at);
-    say_name(row, case, wide(gs[0]), plan, k)
+    let k = uk_plan::say_cardinal(settings, zero, false, n, gs, plan, at);
+    say_name(row, case, base::wide_group(gs[0]), plan, k)
 }
 
 // A count of a currency's main unit.
@@ -96,48 +87,50 @@ fn say_main(
     case: usize,
     currency: usize,
     zero: bool,
+    n: usize,
     gs: &[u16; 22],
     plan: &mut [u32],
     at: usize,
 ) -> usize
-    requires { ⌜ (case < 6) × (currency < 44) × (at + 115 ≤ length (now plan)) ⌝ }
-    ensures { λ r. ⌜ Told 115 (now (plan .entry)) at (now (plan .exit)) r (countWords (currencyAt currency .main) case zero (now (gs .entry))) ⌝ }
+    requires { ⌜ (case < 6) × (currency < 44) × (n ≤ 22) × ZeroFrom (now gs) n × (at + (5 * n + 5) ≤ length (now plan)) ⌝ }
+    ensures { λ r. ⌜ Told ukPool (5 * n + 5) (now (plan .entry)) at (now (plan .exit)) r (countWords (currencyAt currency .main) case zero (now (gs .entry))) ⌝ }
 {
     let row = uk_money::main_row(currency);
-    say_count(&row, case, zero, gs, plan, at)
+    say_count(&row, case, zero, n, gs, plan, at)
 }
 
 // A count of its fraction, above 0.
 fn say_fraction(case: usize, currency: usize, hundredths: u32, plan: &mut [u32], at: usize) -> usize
-    requires { ⌜ (case < 6) × (currency < 44) × (hundredths < 100) × (at + 115 ≤ length (now plan)) ⌝ }
-    ensures { λ r. ⌜ Told 115 (now (plan .entry)) at (now (plan .exit)) r (countWords (currencyAt currency .fraction) case false (hundredths ∷ [])) ⌝ }
+    requires { ⌜ (case < 6) × (currency < 44) × (hundredths < 100) × (at + 10 ≤ length (now plan)) ⌝ }
+    ensures { λ r. ⌜ Told ukPool 10 (now (plan .entry)) at (now (plan .exit)) r (countWords (currencyAt currency .fraction) case false (hundredths ∷ [])) ⌝ }
 {
     let row = uk_money::fraction_row(currency);
     let mut gs = [0u16; 22];
     gs[0] = hundredths as u16;
-    say_count(&row, case, false, &gs, plan, at)
+    say_count(&row, case, false, 1, &gs, plan, at)
 }
 
-// The plan of an amount under these settings, from the groups of its whole part, whether that is zero, and its hundredths: it says the
-// amount's words, joined.
+// The plan of an amount under these settings, from its whole part, whether that is zero, its orders and its groups, and from its hundredths: it
+// says the amount's words, joined.
 pub fn plan_money(
     settings: Settings,
     currency: usize,
     zero: bool,
+    n: usize,
     gs: &[u16; 22],
     hundredths: u32,
     plan: &mut [u32],
 ) -> usize
-    requires { ⌜ (settings .case < 6) × (currency < 44) × (hundredths < 100) × (230 ≤ length (now plan)) ⌝ }
-    ensures { λ r. ⌜ (r ≤ 230) × (phrase (says (now (plan .exit)) r) ≡ joined (moneyWords (currencyAt currency) (settings .case) zero (now (gs .entry)) hundredths)) ⌝ }
+    requires { ⌜ (settings .case < 6) × (currency < 44) × (n ≤ 7) × ZeroFrom (now gs) n × (hundredths < 100) × (50 ≤ length (now plan)) ⌝ }
+    ensures { λ r. ⌜ (r ≤ 50) × (phrase (says ukPool (now (plan .exit)) r) ≡ joined (moneyWords (currencyAt currency) (settings .case) zero (now (gs .entry)) hundredths)) ⌝ }
 {
     let case = settings.case;
     if hundredths == 0 {
-        return say_main(case, currency, zero, gs, plan, 0);
+        return say_main(case, currency, zero, n, gs, plan, 0);
     }
     if zero {
         return say_fraction(case, currency, hundredths, plan, 0);
     }
-    let k = say_main(case, currency, false, gs, plan, 0);
+    let k = say_main(case, currency, false, n, gs, plan, 0);
     say_fraction(case, currency, hundredths, plan, k)
 }

@@ -1,9 +1,8 @@
 -- The reader's promise in each of its answers.
 -- Assumes nothing.
-use Prim.Native.Nat.{ℕ, zero, suc, _+_, _*_, _<_, _≤_}
+use Prim.Native.Nat.{ℕ, _+_, _<_}
 use mathlib.Core.Path.{_≡_, refl, sym, _∙_, ap, subst}
-use mathlib.Core.Bool.{Bool, true, false}
-use mathlib.Core.List.{List, [], _∷_}
+use mathlib.Core.List.{List}
 use native.Mathlib.Omega.{arith}
 use lib.Dec.{eqb}
 use lib.ListN.{length, getD, drop}
@@ -18,10 +17,9 @@ use Rattle.uk_money.specs.Currencies.{currencyAt}
 use Rattle.uk_money.specs.Money.{moneyWords}
 use Rattle.uk_money.specs.MoneyGrammar.{SaysMoney}
 use Rattle.uk_money.proofs.Amounts.{Holds, amount-says, amount-is}
-use Rattle.uk_money_read.specs.Reading.{behind}
+use Rattle.uk_money_read.specs.Behind.{behind}
 use Rattle.uk_money_read.specs.Promise.{ReadMoney}
-use Rattle.uk_money_read.specs.declared.Seen.{Seen}
-use Rattle.uk_money_read.specs.declared.Seen.the-variants.{Refused, Amount}
+use Rattle.uk_money_read.specs.declared.Reading.the-variants.{Refused, Amount}
 use Rattle.uk_money_read.proofs.Found.{Stated}
 use Rattle.uk_money_read.proofs.Made.{says-once, Guessed, plainly, alone, guessed}
 

@@ -1,15 +1,14 @@
 -- The words behind nouns, place by place in a text.
 -- Assumes nothing.
-use Prim.Native.Nat.{ℕ, zero, suc, _+_, _<_, _≤_}
-use mathlib.Core.Path.{_≡_, refl, sym, _∙_, ap}
-use mathlib.Core.List.{List, [], _∷_}
+use Prim.Native.Nat.{ℕ, _≤_}
+use mathlib.Core.Path.{_≡_, refl, sym, _∙_}
+use mathlib.Core.List.{List, _∷_}
 use borrow.Author.Tests.{eq-eqb, ne-eqb}
-use lib.Dec.{eqb}
 use lib.ListN.{length, drop, drop-of-length-le}
 use Rattle.base.specs.Join.{Word}
 use Rattle.tokens.specs.Tokens.{split}
 use Rattle.uk_read.specs.Reading.{mean}
-use Rattle.uk_money_read.specs.Reading.{behind}
+use Rattle.uk_money_read.specs.Behind.{behind}
 
 -- a word that is a number word, and one that is none
 module _ (m : ℕ) (w : Word) (ws : List Word) (e : m ≡ mean w) where

@@ -1,9 +1,9 @@
 -- An amount by the grammar is a whole part and hundredths within the limits, and the bytes are those that it is spelled with. For any bytes it
 -- is decided whether they are one.
 -- Assumes nothing.
-use Prim.Native.Nat.{ℕ, zero, suc, _<_, _≤_}
+use Prim.Native.Nat.{ℕ, _<_, _≤_}
 use mathlib.Core.Path.{_≡_, refl, sym, _∙_, ap}
-use mathlib.Core.Bool.{Bool, true, false, _&&_}
+use mathlib.Core.Bool.{Bool, true, false}
 use mathlib.Core.List.{List}
 use native.Mathlib.Omega.{arith}
 use borrow.Author.Tests.{leb-true, leb-false}
@@ -21,7 +21,7 @@ use Rattle.uk_money.specs.Currencies.{Currency, currencyAt}
 use Rattle.uk_money.specs.Money.{moneyWords}
 use Rattle.uk_money.specs.MoneyGrammar.{SaysMoney}
 use Rattle.uk_money.proofs.Amounts.{amount-says, amount-is}
-use Rattle.uk_money_read.specs.Reading.{behind}
+use Rattle.uk_money_read.specs.Behind.{behind}
 use Rattle.uk_money_read.proofs.Made.{Guessed, plainly, alone, guessed}
 
 -- the bytes of an amount

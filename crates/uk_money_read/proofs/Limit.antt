@@ -1,83 +1,77 @@
 -- The number of 22 groups against the limit of money, as the code tells it: by the seven lowest groups.
 -- Assumes nothing.
-use Prim.Native.Nat.{ℕ, zero, suc, _+_, _*_, _<_, _≤_}
-use mathlib.Core.Path.{_≡_, refl, sym, _∙_, ap}
+use Prim.Native.Nat.{ℕ, _+_, _-_, _*_, _<_, _≤_}
+use mathlib.Core.Path.{_≡_, refl, sym, _∙_}
 use mathlib.Core.Bool.{Bool, true, false}
-use mathlib.Core.List.{List, [], _∷_}
+use mathlib.Core.List.{List}
 use native.Mathlib.Omega.{arith}
-use native.Mathlib.Numerals.{add-one}
-use borrow.Author.Tests.{eq-eqb, ne-eqb, eqb-true, eqb-false, le-leb, lt-leb, leb-true, leb-false}
-use lib.Dec.{eqb, leb}
-use lib.ListN.{length, getD, drop, drop-of-length-le}
-use lib.Seq.{drop-cons}
+use borrow.Author.Tests.{le-leb, lt-leb, leb-true, leb-false, ltb-true, ltb-false}
+use lib.Dec.{ltb, leb}
+use lib.ListN.{length, getD, drop}
+use lib.Seq.{getD-drop}
 use Rattle.figures.specs.Groups.{total, Groups}
 use Rattle.figures.specs.Money.{moneyLimit}
 use Rattle.figures.proofs.Laws.Groups.{group-lt}
+use Rattle.groups.specs.Highest.{Highest}
+use Rattle.groups.proofs.Highest.{total-from, total-none, none-total}
 
-at : (gs : List ℕ) (i : ℕ) → i < length gs → total (drop i gs) ≡ getD gs i 0 + 1000 * total (drop (i + 1) gs)
-at gs i h = rw (drop-cons gs i 0 h, add-one i) refl
+-- a test that agrees with one of the limit
+by-less : (a b n l : ℕ) → (a < b → n ≤ l) → (b ≤ a → l < n) → ltb a b ≡ leb n l
+by-less a b n l f g = go (ltb a b) refl
+  where
+    go : (t : Bool) → ltb a b ≡ t → t ≡ leb n l
+    go true e = sym (le-leb n l (f (ltb-true a b e)))
+    go false e = sym (lt-leb n l (g (ltb-false a b e)))
 
--- all groups from order k on, place by place
-module _ (gs : List ℕ) (k i : ℕ) (e : eqb (total (drop k gs)) 0 ≡ eqb (total (drop i gs)) 0) where
-  times : (n : ℕ) → eqb (0 + 1000 * n) 0 ≡ eqb n 0
-  times zero = refl
-  times (suc n) = ne-eqb (0 + 1000 * suc n) 0 (λ z. omega arith) ∙ sym (ne-eqb (suc n) 0 (λ z. omega arith))
-
-  pub zero-on : i < length gs → getD gs i 0 ≡ 0 → eqb (total (drop k gs)) 0 ≡ eqb (total (drop (i + 1) gs)) 0
-  zero-on h z = e ∙ ap (λ (n : ℕ). eqb n 0) (at gs i h ∙ ap (λ (n : ℕ). n + 1000 * total (drop (i + 1) gs)) z) ∙ times (total (drop (i + 1) gs))
-
-  pub zero-off : i < length gs → (getD gs i 0 ≡ 0 → ⊥) → false ≡ eqb (total (drop k gs)) 0
-  zero-off h n = sym (e ∙ ne-eqb (total (drop i gs)) 0 (λ z. n (omega (arith, at gs i h))))
-
-  pub zero-all : length gs ≤ i → true ≡ eqb (total (drop k gs)) 0
-  zero-all h = sym (e ∙ rw (drop-of-length-le gs {i = i} h) refl)
+by-most : (a b n l : ℕ) → (a ≤ b → n ≤ l) → (b < a → l < n) → leb a b ≡ leb n l
+by-most a b n l f g = go (leb a b) refl
+  where
+    go : (t : Bool) → leb a b ≡ t → t ≡ leb n l
+    go true e = sym (le-leb n l (f (leb-true a b e)))
+    go false e = sym (lt-leb n l (g (leb-false a b e)))
 
 -- by the seven lowest groups and what is above them
-module _ (gs : List ℕ) (z : length gs ≡ 22) (g : Groups gs) where
-  pub lt : (i : ℕ) → i < 22 → getD gs i 0 < 1000
-  lt i h = group-lt gs i g (omega arith)
+module _ (gs : List ℕ) (z : length gs ≡ 22) (g : Groups gs) (n : ℕ) (t : Highest gs n) where
+  -- three groups, the lowest of order i
+  abbrev nineAt : ℕ → ℕ
+  nineAt i = getD gs (i + 2) 0 * 1000000 + getD gs (i + 1) 0 * 1000 + getD gs i 0
 
-  -- the six lowest
-  abbrev pub six : ℕ
-  six = ((((getD gs 5 0 * 1000 + getD gs 4 0) * 1000 + getD gs 3 0) * 1000 + getD gs 2 0) * 1000 + getD gs 1 0) * 1000 + getD gs 0 0
+  nine-lt : (i : ℕ) → i < 20 → nineAt i < 1000000000
+  nine-lt i h = omega (arith, group-lt gs i g (omega arith), group-lt gs (i + 1) g (omega arith), group-lt gs (i + 2) g (omega arith))
 
-  parts : total gs ≡ six + 1000000000000000000 * (getD gs 6 0 + 1000 * total (drop 7 gs))
+  parts : total gs ≡ nineAt 0 + 1000000000 * nineAt 3 + 1000000000000000000 * (getD gs 6 0 + 1000 * total (drop 7 gs))
   parts =
-      let a = at gs 0 (omega arith) in
-      let b = at gs 1 (omega arith) in
-      let c = at gs 2 (omega arith) in
-      let d = at gs 3 (omega arith) in
-      let e = at gs 4 (omega arith) in
-      let f = at gs 5 (omega arith) in
-      let h = at gs 6 (omega arith) in
+      let a = total-from gs 0 (omega arith) in
+      let b = total-from gs 1 (omega arith) in
+      let c = total-from gs 2 (omega arith) in
+      let d = total-from gs 3 (omega arith) in
+      let e = total-from gs 4 (omega arith) in
+      let f = total-from gs 5 (omega arith) in
+      let h = total-from gs 6 (omega arith) in
       omega arith
 
-  six-lt : six < 1000000000000000000
-  six-lt =
-      let a = lt 0 (omega arith) in
-      let b = lt 1 (omega arith) in
-      let c = lt 2 (omega arith) in
-      let d = lt 3 (omega arith) in
-      let e = lt 4 (omega arith) in
-      let f = lt 5 (omega arith) in
-      omega arith
+  pub above : 7 < n → false ≡ leb (total gs) moneyLimit
+  above h =
+      let some : (total (drop 7 gs) ≡ 0 → ⊥) = λ e. t .some (omega arith) (last e) in
+      sym (lt-leb (total gs) moneyLimit (omega (arith, parts, some)))
+    where
+      last : total (drop 7 gs) ≡ 0 → getD gs (n - 1) 0 ≡ 0
+      last e =
+          let i : 7 + (n - 8) ≡ n - 1 = omega arith in
+          rw (← i, ← getD-drop 7 gs (n - 8) 0) (none-total (drop 7 gs) e (n - 8) (omega arith))
 
-  pub above : false ≡ eqb (total (drop 7 gs)) 0 → false ≡ leb (total gs) moneyLimit
-  above e = let n = eqb-false (total (drop 7 gs)) 0 (sym e) in sym (lt-leb (total gs) moneyLimit (omega (arith, parts, n)))
-
-  module _ (t : true ≡ eqb (total (drop 7 gs)) 0) where
+  module _ (h : n ≤ 7) where
     none : total (drop 7 gs) ≡ 0
-    none = eqb-true (total (drop 7 gs)) 0 (sym t)
+    none = total-none (drop 7 gs) (λ i l. getD-drop 7 gs i 0 ∙ t .zeros (7 + i) (omega arith))
 
-    pub below-top : getD gs 6 0 < 18 → true ≡ leb (total gs) moneyLimit
-    below-top h = sym (le-leb (total gs) moneyLimit (omega (arith, parts, six-lt, none)))
+    pub by-high : (getD gs 6 0 ≡ 18 → ⊥) → ltb (getD gs 6 0) 18 ≡ leb (total gs) moneyLimit
+    by-high d =
+        by-less (getD gs 6 0) 18 (total gs) moneyLimit (λ l. omega (arith, parts, none, nine-lt 0 (omega arith), nine-lt 3 (omega arith)))
+        (λ l. omega (arith, parts, none))
 
-    pub above-top : 18 < getD gs 6 0 → false ≡ leb (total gs) moneyLimit
-    above-top h = sym (lt-leb (total gs) moneyLimit (omega (arith, parts, none)))
+    module _ (e : getD gs 6 0 ≡ 18) where
+      pub by-middle : (nineAt 3 ≡ 446744073 → ⊥) → ltb (nineAt 3) 446744073 ≡ leb (total gs) moneyLimit
+      by-middle d = by-less (nineAt 3) 446744073 (total gs) moneyLimit (λ l. omega (arith, parts, none, nine-lt 0 (omega arith))) (λ l. omega (arith, parts, none))
 
-    pub at-top : getD gs 6 0 ≡ 18 → leb six 446744073709551615 ≡ leb (total gs) moneyLimit
-    at-top h = go (leb six 446744073709551615) refl
-      where
-        go : (b : Bool) → leb six 446744073709551615 ≡ b → b ≡ leb (total gs) moneyLimit
-        go true e = sym (le-leb (total gs) moneyLimit (omega (arith, parts, none, leb-true six 446744073709551615 e)))
-        go false e = sym (lt-leb (total gs) moneyLimit (omega (arith, parts, none, leb-false six 446744073709551615 e)))
+      pub by-low : nineAt 3 ≡ 446744073 → leb (nineAt 0) 709551615 ≡ leb (total gs) moneyLimit
+      by-low d = by-most (nineAt 0) 709551615 (total gs) moneyLimit (λ l. omega (arith, parts, none)) (λ l. omega (arith, parts, none))

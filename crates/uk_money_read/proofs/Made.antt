@@ -1,11 +1,11 @@
 -- What the reader makes of an amount's words is its whole part and its hundredths; so no bytes are two amounts.
 -- Assumes nothing.
-use Prim.Native.Nat.{ℕ, zero, suc, _+_, _*_, _/_, _%_, _<_, _≤_}
-use mathlib.Core.Path.{_≡_, refl, sym, _∙_, ap, subst}
+use Prim.Native.Nat.{ℕ, _/_, _%_, _<_}
+use mathlib.Core.Path.{_≡_, refl, sym, _∙_, ap}
 use mathlib.Core.Bool.{Bool, true, false}
 use mathlib.Core.List.{List, [], _∷_, _++_, append-nil, append-assoc}
 use native.Mathlib.Omega.{arith}
-use borrow.Author.Tests.{eqb-true, eqb-false, ne-eqb}
+use borrow.Author.Tests.{eqb-true}
 use lib.Dec.{eqb}
 use lib.ListN.{getD}
 use Rattle.base.specs.Join.{Word, joined}
@@ -15,19 +15,19 @@ use Rattle.tokens.proofs.Words.{Separable, split-joined}
 use Rattle.uk.specs.Rules.{Words}
 use Rattle.uk.specs.Ukrainian.{ukrainian, agreedNumber, agreedCase}
 use Rattle.uk.specs.Grammar.{Sentence, zero-word, plain, negative}
-use Rattle.uk_read.specs.Reading.{mean, Taken, taken, sums, left}
+use Rattle.uk_read.specs.Reading.{mean, taken, sums, left}
 use Rattle.uk_read.proofs.Known.{Lawful, lawful}
 use Rattle.uk_read.proofs.Taking.{closed, Stops, stops, closes}
 use Rattle.uk_read.proofs.Falls.{reads-falling}
 use Rattle.uk_read.proofs.Below.{zeros, one-below}
 use Rattle.uk_read.proofs.Sentences.{both-separable, separable}
-use Rattle.uk_money.specs.Nouns.{Name, nameForms}
+use Rattle.uk_money.specs.Nouns.{Name}
 use Rattle.uk_money.specs.Currencies.{Currency, currencyAt}
 use Rattle.uk_money.specs.Money.{agreedName}
 use Rattle.uk_money.specs.MoneyGrammar.{Counted, counted, Amount, whole, hundredths, both, SaysMoney}
 use Rattle.uk_money.proofs.Names.{main-gender, fraction-gender, agreed-number, agreed-case}
 use Rattle.uk_money.proofs.Apart.{no-form-in-common}
-use Rattle.uk_money_read.specs.Reading.{behind}
+use Rattle.uk_money_read.specs.Behind.{behind}
 use Rattle.uk_money_read.proofs.Quiet.{Named, main-named, fraction-named, name-stops, name-passed}
 
 -- a lowest group of 0 is read as 0, and no more is read

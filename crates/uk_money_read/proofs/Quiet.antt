@@ -1,9 +1,9 @@
 -- No form of a currency noun is a number word, or has a gap in it: one computed test over the forms of all names.
 -- Assumes nothing.
-use Prim.Native.Nat.{ℕ, zero, suc, _+_, _*_, _/_, _%_, _<_, _≤_}
-use mathlib.Core.Path.{_≡_, refl, sym, _∙_, ap}
+use Prim.Native.Nat.{ℕ, _+_, _*_, _/_, _%_, _<_}
+use mathlib.Core.Path.{_≡_, refl, sym}
 use mathlib.Core.Bool.{Bool, true, false, _&&_}
-use mathlib.Core.List.{List, [], _∷_, _++_, map}
+use mathlib.Core.List.{List, [], _∷_, _++_}
 use native.Mathlib.Omega.{arith}
 use borrow.Author.Tests.{eqb-true, eq-eqb}
 use lib.Dec.{eqb}
@@ -22,7 +22,7 @@ use Rattle.uk_money.specs.Currencies.{Currency, currencies, currencyAt}
 use Rattle.uk_money.specs.Money.{agreedName}
 use Rattle.uk_money.proofs.Names.{agreed-number, agreed-case}
 use Rattle.uk.specs.Ukrainian.{agreedNumber, agreedCase}
-use Rattle.uk_money_read.specs.Reading.{behind}
+use Rattle.uk_money_read.specs.Behind.{behind}
 
 -- words that are no number words
 abbrev pub Quiet : List Word → Type 0

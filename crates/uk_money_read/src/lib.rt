@@ -11,24 +11,33 @@ ghost use Rattle.base.specs.Decides.{Decides};
 ghost use Rattle.base.specs.Join.{joined};
 ghost use Rattle.figures.specs.Groups.{total, Groups};
 ghost use Rattle.figures.specs.Money.{moneyLimit};
+ghost use Rattle.groups.specs.Highest.{ZeroFrom, Highest};
 ghost use Rattle.tokens.specs.Tokens.{split};
 ghost use Rattle.uk_read.specs.Reading.{sums};
 ghost use Rattle.uk_money.specs.Currencies.{currencyAt};
 ghost use Rattle.uk_money.specs.Money.{moneyWords};
-ghost use Rattle.uk_money_read.specs.Reading.{behind};
+ghost use Rattle.uk_money_read.specs.Behind.{behind};
 ghost use Rattle.uk_money_read.specs.Promise.{ReadMoney};
 
+// The orders of number words.
+const ORDERS: usize = 22;
+
+// The limit of money, 18446744073709551615: its orders, its highest group, and the digits below that by nines.
+const LIMIT_ORDERS: usize = 7;
+
+const LIMIT_HIGH: u16 = 18;
+
+const LIMIT_MIDDLE: u64 = 446744073;
+
+const LIMIT_LOW: u64 = 709551615;
+
+// The most hundredths.
+const MOST: u32 = 99;
+
 // What a phrase is: no amount, or one whose whole part's groups were read, with its hundredths.
-pub enum Seen {
+pub enum Reading {
     Refused,
     Amount(u32),
-}
-
-// A group as a wider number.
-fn wide(x: u16) -> u32
-    ensures { λ r. ⌜ r ≡ x ⌝ }
-{
-    x as u32
 }
 
 // How many bytes the words at the front of a text have that are no number words.
@@ -51,67 +60,51 @@ fn lowest(s: &[u8]) -> u32
     ensures { λ r. ⌜ r ≡ getD (sums 22 (split (now (s .entry)))) 0 0 ⌝ }
 {
     let mut gs = [0u16; 22];
-    uk_read::groups(22, s, &mut gs);
-    wide(gs[0])
+    uk_read::groups(ORDERS, s, &mut gs);
+    gs[0] as u32
 }
 
-// A number with three digits more.
-fn more(n: u64, g: u16) -> u64
-    requires { ⌜ (n < 1000000000000000) × (g < 1000) ⌝ }
-    ensures { λ r. ⌜ r ≡ n * 1000 + g ⌝ }
+// What three groups mean, the highest first.
+fn nine(a: u16, b: u16, c: u16) -> u64
+    ensures { λ r. ⌜ r ≡ a * 1000000 + b * 1000 + c ⌝ }
 {
-    n * 1000 + wide(g) as u64
+    a as u64 * 1000000 + b as u64 * 1000 + c as u64
 }
 
-// Whether the groups from order k on are 0.
-fn zero_from(k: usize, gs: &[u16]) -> bool
-    requires { ⌜ k ≤ length (now gs) ⌝ }
-    ensures { λ r. ⌜ r ≡ eqb (total (drop k (now (gs .entry)))) 0 ⌝ }
+// Whether the number with these groups, of n orders, is within the limit of money.
+fn within(n: usize, gs: &[u16; 22]) -> bool
+    requires { ⌜ Groups (now gs) × (length (now gs) ≡ 22) × Highest (now gs) n ⌝ }
+    ensures { λ r. ⌜ (r ≡ leb (total (now (gs .entry))) moneyLimit) × (r ≡ true → n ≤ 7) ⌝ }
 {
-    let mut i = k;
-    while i < gs.len() {
-        if gs[i] != 0 {
-            return false;
-        }
-        i += 1;
+    if LIMIT_ORDERS < n {
+        return false;
     }
-    true
-}
-
-// Whether the number with these groups is within the limit of money.
-fn within(gs: &[u16; 22]) -> bool
-    requires { ⌜ Groups (now gs) ⌝ }
-    ensures { λ r. ⌜ r ≡ leb (total (now (gs .entry))) moneyLimit ⌝ }
-{
-    if zero_from(7, gs) {
-        if gs[6] < 18 {
-            return true;
-        }
-        if 18 < gs[6] {
-            return false;
-        }
-        let a = more(more(0, gs[5]), gs[4]);
-        let b = more(more(a, gs[3]), gs[2]);
-        return more(more(b, gs[1]), gs[0]) <= 446744073709551615;
+    let high = gs[6];
+    if high != LIMIT_HIGH {
+        return high < LIMIT_HIGH;
     }
-    false
+    let middle = nine(gs[5], gs[4], gs[3]);
+    if middle != LIMIT_MIDDLE {
+        return middle < LIMIT_MIDDLE;
+    }
+    nine(gs[2], gs[1], gs[0]) <= LIMIT_LOW
 }
 
-// Whether s is the phrase of an amount.
+// Whether s is the phrase of an amount whose whole part has n orders, none of them where it is zero.
 fn is_phrase(
     settings: Settings,
     currency: usize,
-    zero: bool,
+    n: usize,
     gs: &[u16; 22],
     hundredths: u32,
     s: &[u8],
 ) -> bool
-    requires { ⌜ (settings .case < 6) × (currency < 44) × (hundredths < 100) ⌝ }
-    ensures { λ r. ⌜ Decides r (joined (moneyWords (currencyAt currency) (settings .case) zero (now (gs .entry)) hundredths) ≡ now (s .entry)) ⌝ }
+    requires { ⌜ (settings .case < 6) × (currency < 44) × (n ≤ 7) × ZeroFrom (now gs) n × (hundredths < 100) ⌝ }
+    ensures { λ r. ⌜ Decides r (joined (moneyWords (currencyAt currency) (settings .case) (eqb n 0) (now (gs .entry)) hundredths) ≡ now (s .entry)) ⌝ }
 {
-    let mut plan = [0u32; 230];
-    let n = uk_money_plan::plan_money(settings, currency, zero, gs, hundredths, &mut plan);
-    plan::stands(&plan[..n], s)
+    let mut plan = [0u32; 52];
+    let k = uk_money_plan::plan_money(settings, currency, n == 0, n, gs, hundredths, &mut plan);
+    uk::stands(&plan[..k], s)
 }
 
 // Whether s is the phrase of the amount with these groups and hundredths, and that is within the limits.
@@ -119,33 +112,33 @@ fn is_amount(settings: Settings, currency: usize, gs: &[u16; 22], hundredths: u3
     requires { ⌜ (settings .case < 6) × (currency < 44) × Groups (now gs) ⌝ }
     ensures { λ r. ⌜ Decides r ((total (now (gs .entry)) ≤ moneyLimit) × (hundredths < 100) × (joined (moneyWords (currencyAt currency) (settings .case) (eqb (total (now (gs .entry))) 0) (now (gs .entry)) hundredths) ≡ now (s .entry))) ⌝ }
 {
-    if 99 < hundredths {
+    if MOST < hundredths {
         return false;
     }
-    if within(gs) {
-        let zero = zero_from(0, gs);
-        is_phrase(settings, currency, zero, gs, hundredths, s)
+    let n = groups::top(gs);
+    if within(n, gs) {
+        is_phrase(settings, currency, n, gs, hundredths, s)
     } else {
         false
     }
 }
 
 // Any bytes, under these settings and for a currency: what they are by the grammar, with the groups of the whole part in out.
-pub fn read_money(settings: Settings, currency: usize, s: &[u8], out: &mut [u16; 22]) -> Seen
+pub fn read_money(settings: Settings, currency: usize, s: &[u8], out: &mut [u16; 22]) -> Reading
     requires { ⌜ (settings .case < 6) × (currency < 44) × (now out ≡ replicate 22 0) ⌝ }
     ensures { λ r. ⌜ ReadMoney (currencyAt currency) (settings .case) (now (s .entry)) r (now (out .exit)) ⌝ }
 {
-    let n = uk_read::groups(22, s, out);
+    let n = uk_read::groups(ORDERS, s, out);
     let m = nouns(&s[n..]);
     let at = n + m;
     let h = lowest(&s[at..]);
     if is_amount(settings, currency, out, h, s) {
-        return Seen::Amount(h);
+        return Reading::Amount(h);
     }
-    let alone = wide(out[0]);
+    let alone = out[0] as u32;
     *out = [0u16; 22];
     if is_amount(settings, currency, out, alone, s) {
-        return Seen::Amount(alone);
+        return Reading::Amount(alone);
     }
-    Seen::Refused
+    Reading::Refused
 }

@@ -1,132 +1,115 @@
--- The code's numbers have the texts of the tables: one computed test for each table.
+-- The code's tables of places hold the texts of uk.rs's: one computed test for each; and the endings as the code picks them.
 -- Assumes nothing.
-use Prim.Native.Nat.{ℕ, _+_, _-_, _<_, _≤_}
+use Prim.Native.Nat.{ℕ, zero, suc}
 use mathlib.Core.Path.{_≡_, refl}
-use mathlib.Core.Bool.{Bool, true, false, cond, _&&_}
-use mathlib.Core.List.{List, [], _∷_}
-use native.Mathlib.Omega.{arith}
-use lib.Dec.{eqb}
+use mathlib.Core.Bool.{Bool, true, false}
+use mathlib.Core.List.{[]}
 use lib.ListN.{getD}
 use Rattle.base.specs.Utf8.{utf8, form1, form2}
-use Rattle.base.specs.Bank.{textIn}
-use Rattle.bank_ordinal.specs.Names.{names}
-use Rattle.words.specs.Text.{text}
-use Rattle.base.specs.Same.{sameText}
-use Rattle.base.proofs.Same.{same-is}
-use Rattle.tables.proofs.Tests.{all, all-at}
-use Rattle.uk_ordinal.specs.OrdinalTables.{ordinalZeroBase, oneBase, hundredBase, ordinalUnitBases, ordinalTensBases, adjectiveHardFlexionsSingular, adjectiveHardFlexionsPlural, adjectiveSoftFlexionsSingular, adjectiveSoftFlexionsPlural, ordinalHardFlexionsSingularShort, ordinalSoftFlexionsSingularShort, ordinalFlexionsPluralShort, year}
+use Rattle.words.specs.Part.{part}
+use Rattle.words.proofs.Tables.{at1, at2}
+use Rattle.uk.specs.Pool.{ukPool}
+use Rattle.uk_ordinal.specs.Pool.{shortPool}
+use Rattle.uk_ordinal.specs.OrdinalTables as words
 use Rattle.uk_ordinal.specs.Ordinal.{flexion}
 use Rattle.uk_ordinal.specs.DigitOrdinal.{shortFlexion}
+use Rattle.uk_ordinal.proofs.Listed as places
 
--- the code's tables as lists
-abbrev pub endings : List (List ℕ)
-endings =
-    (23 ∷ 24 ∷ 25 ∷ 23 ∷ 26 ∷ 25 ∷ []) ∷
-    (27 ∷ 28 ∷ 29 ∷ 30 ∷ 31 ∷ 29 ∷ []) ∷
-    (32 ∷ 24 ∷ 25 ∷ 32 ∷ 26 ∷ 25 ∷ []) ∷
-    (33 ∷ 34 ∷ 26 ∷ 34 ∷ 35 ∷ 34 ∷ []) ∷
-    (29 ∷ 36 ∷ 37 ∷ 29 ∷ 38 ∷ 37 ∷ []) ∷
-    (39 ∷ 40 ∷ 29 ∷ 41 ∷ 42 ∷ 29 ∷ []) ∷
-    (43 ∷ 36 ∷ 37 ∷ 43 ∷ 38 ∷ 37 ∷ []) ∷
-    (33 ∷ 44 ∷ 38 ∷ 44 ∷ 45 ∷ 44 ∷ []) ∷ []
+pub zero-at : part ukPool places.ordinalZeroBase ≡ utf8 words.ordinalZeroBase
+unfolding part ukPool words.ordinalZeroBase
+zero-at = refl
 
-abbrev pub shortEndings : List (List ℕ)
-shortEndings =
-    (46 ∷ 47 ∷ 48 ∷ 46 ∷ 49 ∷ 48 ∷ []) ∷
-    (27 ∷ 50 ∷ 46 ∷ 30 ∷ 31 ∷ 46 ∷ []) ∷
-    (32 ∷ 47 ∷ 48 ∷ 32 ∷ 49 ∷ 48 ∷ []) ∷
-    (33 ∷ 51 ∷ 49 ∷ 51 ∷ 52 ∷ 51 ∷ []) ∷
-    (46 ∷ 47 ∷ 48 ∷ 46 ∷ 49 ∷ 48 ∷ []) ∷
-    (39 ∷ 50 ∷ 46 ∷ 41 ∷ 31 ∷ 46 ∷ []) ∷
-    (43 ∷ 47 ∷ 48 ∷ 43 ∷ 49 ∷ 48 ∷ []) ∷
-    (33 ∷ 51 ∷ 49 ∷ 51 ∷ 52 ∷ 51 ∷ []) ∷ []
+pub one-at : part ukPool places.oneBase ≡ utf8 words.oneBase
+unfolding part ukPool words.oneBase
+one-at = refl
 
-abbrev pub years : List (List ℕ)
-years =
-    (53 ∷ 54 ∷ 54 ∷ 53 ∷ 55 ∷ 56 ∷ []) ∷
-    (57 ∷ 58 ∷ 59 ∷ 57 ∷ 60 ∷ 61 ∷ []) ∷ []
+pub hundred-at : part ukPool places.hundredBase ≡ utf8 words.hundredBase
+unfolding part ukPool words.hundredBase
+hundred-at = refl
 
--- the number has this text
-entry : ℕ → List ℕ → Bool
-unfolding text textIn names
-entry id w = sameText (text id) w
+pub adjective-at : part ukPool places.adjectiveN ≡ utf8 "н"
+unfolding part ukPool
+adjective-at = refl
 
-holds : (id : ℕ) (w : List ℕ) → entry id w ≡ true → text id ≡ w
-unfolding entry
-holds id w t = same-is (text id) w t
+pub before-at : part ukPool places.beforeEra ≡ utf8 "до"
+unfolding part ukPool
+before-at = refl
 
--- the fixed texts
-pub zero-base : text 769 ≡ utf8 ordinalZeroBase
-unfolding text textIn names ordinalZeroBase
-zero-base = refl
+pub era-at : part ukPool places.ourEra ≡ utf8 "н.е."
+unfolding part ukPool
+era-at = refl
 
-pub one-base : text 770 ≡ utf8 oneBase
-unfolding text textIn names oneBase
-one-base = refl
+pub unit-at : (i : ℕ) → part ukPool (getD places.ordinalUnitBases i 0) ≡ form1 words.ordinalUnitBases i
+unfolding part ukPool words.ordinalUnitBases
+unit-at = at1 ukPool places.ordinalUnitBases words.ordinalUnitBases refl
 
-pub hundred-base : text 771 ≡ utf8 hundredBase
-unfolding text textIn names hundredBase
-hundred-base = refl
+pub ten-at : (i : ℕ) → part ukPool (getD places.ordinalTensBases i 0) ≡ form1 words.ordinalTensBases i
+unfolding part ukPool words.ordinalTensBases
+ten-at = at1 ukPool places.ordinalTensBases words.ordinalTensBases refl
 
-pub adjective-n : text 772 ≡ utf8 "н"
-unfolding text textIn names
-adjective-n = refl
+pub hard-at : (i j : ℕ) → part ukPool (getD (getD places.adjectiveHardFlexionsSingular i []) j 0) ≡ form2 words.adjectiveHardFlexionsSingular i j
+unfolding part ukPool words.adjectiveHardFlexionsSingular
+hard-at = at2 ukPool places.adjectiveHardFlexionsSingular words.adjectiveHardFlexionsSingular refl
 
-pub before : text 830 ≡ utf8 "до"
-unfolding text textIn names
-before = refl
+pub hard-plural-at : (i : ℕ) → part ukPool (getD places.adjectiveHardFlexionsPlural i 0) ≡ form1 words.adjectiveHardFlexionsPlural i
+unfolding part ukPool words.adjectiveHardFlexionsPlural
+hard-plural-at = at1 ukPool places.adjectiveHardFlexionsPlural words.adjectiveHardFlexionsPlural refl
 
-pub our-era : text 831 ≡ utf8 "н.е."
-unfolding text textIn names
-our-era = refl
+pub soft-at : (i j : ℕ) → part ukPool (getD (getD places.adjectiveSoftFlexionsSingular i []) j 0) ≡ form2 words.adjectiveSoftFlexionsSingular i j
+unfolding part ukPool words.adjectiveSoftFlexionsSingular
+soft-at = at2 ukPool places.adjectiveSoftFlexionsSingular words.adjectiveSoftFlexionsSingular refl
 
--- bases, from a number on
-module _ (base lo n : ℕ) (f : ℕ → List ℕ) (t : all lo n (λ i. entry (base + i) (f i)) ≡ true) where
-  from : (i : ℕ) → lo ≤ i → i < lo + n → text (base + i) ≡ f i
-  from i a b = holds (base + i) (f i) (all-at lo n (λ i. entry (base + i) (f i)) t i a b)
+pub soft-plural-at : (i : ℕ) → part ukPool (getD places.adjectiveSoftFlexionsPlural i 0) ≡ form1 words.adjectiveSoftFlexionsPlural i
+unfolding part ukPool words.adjectiveSoftFlexionsPlural
+soft-plural-at = at1 ukPool places.adjectiveSoftFlexionsPlural words.adjectiveSoftFlexionsPlural refl
 
-pub unit-bases : (u : ℕ) → 0 < u → u < 10 → text (772 + u) ≡ form1 ordinalUnitBases (u - 1)
-unfolding entry form1 ordinalUnitBases
-unit-bases u a b = from 772 1 9 (λ u. form1 ordinalUnitBases (u - 1)) refl u (omega arith) (omega arith)
+pub short-hard-at : (i j : ℕ) → part shortPool (getD (getD places.ordinalHardFlexionsSingularShort i []) j 0) ≡ form2 words.ordinalHardFlexionsSingularShort i j
+unfolding part shortPool words.ordinalHardFlexionsSingularShort
+short-hard-at = at2 shortPool places.ordinalHardFlexionsSingularShort words.ordinalHardFlexionsSingularShort refl
 
-pub ten-bases : (t : ℕ) → 1 < t → t < 10 → text (781 + t) ≡ form1 ordinalTensBases (t - 1)
-unfolding entry form1 ordinalTensBases
-ten-bases t a b = from 781 2 8 (λ t. form1 ordinalTensBases (t - 1)) refl t (omega arith) (omega arith)
+pub short-soft-at : (i j : ℕ) → part shortPool (getD (getD places.ordinalSoftFlexionsSingularShort i []) j 0) ≡ form2 words.ordinalSoftFlexionsSingularShort i j
+unfolding part shortPool words.ordinalSoftFlexionsSingularShort
+short-soft-at = at2 shortPool places.ordinalSoftFlexionsSingularShort words.ordinalSoftFlexionsSingularShort refl
 
--- endings by softness, gender, grammatical number and case
-abbrev row : Bool → ℕ → ℕ → ℕ
-row soft gender number = cond soft 4 0 + cond (eqb number 0) gender 3
+pub short-plural-at : (i : ℕ) → part shortPool (getD places.ordinalFlexionsPluralShort i 0) ≡ form1 words.ordinalFlexionsPluralShort i
+unfolding part shortPool words.ordinalFlexionsPluralShort
+short-plural-at = at1 shortPool places.ordinalFlexionsPluralShort words.ordinalFlexionsPluralShort refl
 
-abbrev at : List (List ℕ) → ℕ → ℕ → ℕ
-at t i c = 768 + getD (getD t i []) c 0
+pub year-at : (i j : ℕ) → part ukPool (getD (getD places.year i []) j 0) ≡ form2 words.year i j
+unfolding part ukPool words.year
+year-at = at2 ukPool places.year words.year refl
 
-module _ (t : List (List ℕ)) (s : Bool) (f : ℕ → ℕ → ℕ → List ℕ) where
-  abbrev cases : ℕ → ℕ → Bool
-  cases g n = all 0 6 (λ c. entry (at t (row s g n) c) (f g n c))
+-- an ending by gender in the singular, and by case alone in the plural
+module _ (g c : ℕ) where
+  pub hard-one : (n : ℕ) → n ≡ 0 → form2 words.adjectiveHardFlexionsSingular g c ≡ flexion false g n c
+  unfolding flexion
+  hard-one n e = rw e refl
 
-  abbrev numbers : ℕ → Bool
-  numbers g = all 0 2 (λ n. cases g n)
+  pub hard-more : (n : ℕ) → (n ≡ 0 → ⊥) → form1 words.adjectiveHardFlexionsPlural c ≡ flexion false g n c
+  unfolding flexion
+  hard-more zero h = absurd (h refl)
+  hard-more (suc n) h = refl
 
-  by-gender : all 0 3 (λ g. numbers g) ≡ true → (g n c : ℕ) → g < 3 → n < 2 → c < 6 → text (at t (row s g n) c) ≡ f g n c
-  by-gender e g n c a b d =
-      holds (at t (row s g n) c) (f g n c)
-      (all-at 0 6 (λ c. entry (at t (row s g n) c) (f g n c))
-      (all-at 0 2 (λ n. cases g n) (all-at 0 3 (λ g. numbers g) e g (omega arith) (omega arith)) n (omega arith) (omega arith)) c (omega arith) (omega arith))
+  pub soft-one : (n : ℕ) → n ≡ 0 → form2 words.adjectiveSoftFlexionsSingular g c ≡ flexion true g n c
+  unfolding flexion
+  soft-one n e = rw e refl
 
-module _ (g n c : ℕ) (a : g < 3) (b : n < 2) (d : c < 6) where
-  pub ending-at : (s : Bool) → text (at endings (row s g n) c) ≡ flexion s g n c
-  unfolding entry flexion form1 form2 adjectiveHardFlexionsSingular adjectiveHardFlexionsPlural adjectiveSoftFlexionsSingular adjectiveSoftFlexionsPlural
-  ending-at true = by-gender endings true (flexion true) refl g n c a b d
-  ending-at false = by-gender endings false (flexion false) refl g n c a b d
+  pub soft-more : (n : ℕ) → (n ≡ 0 → ⊥) → form1 words.adjectiveSoftFlexionsPlural c ≡ flexion true g n c
+  unfolding flexion
+  soft-more zero h = absurd (h refl)
+  soft-more (suc n) h = refl
 
-  pub short-ending-at : (s : Bool) → text (at shortEndings (row s g n) c) ≡ shortFlexion s g n c
-  unfolding entry shortFlexion form1 form2 ordinalHardFlexionsSingularShort ordinalSoftFlexionsSingularShort ordinalFlexionsPluralShort
-  short-ending-at true = by-gender shortEndings true (shortFlexion true) refl g n c a b d
-  short-ending-at false = by-gender shortEndings false (shortFlexion false) refl g n c a b d
+  pub short-soft : (s : Bool) (n : ℕ) → s ≡ true → n ≡ 0 → form2 words.ordinalSoftFlexionsSingularShort g c ≡ shortFlexion s g n c
+  unfolding shortFlexion
+  short-soft s n d e = rw (d, e) refl
 
--- the years' noun by grammatical number and case
-pub year-words : (n c : ℕ) → n < 2 → c < 6 → text (at years n c) ≡ form2 year n c
-unfolding entry form2 year
-year-words n c a b =
-    holds (at years n c) (form2 year n c)
-    (all-at 0 6 (λ c. entry (at years n c) (form2 year n c)) (all-at 0 2 (λ n. all 0 6 (λ c. entry (at years n c) (form2 year n c))) refl n (omega arith) (omega arith)) c (omega arith) (omega arith))
+  pub short-hard : (s : Bool) (n : ℕ) → s ≡ false → n ≡ 0 → form2 words.ordinalHardFlexionsSingularShort g c ≡ shortFlexion s g n c
+  unfolding shortFlexion
+  short-hard s n d e = rw (d, e) refl
+
+  pub short-more : (s : Bool) (n : ℕ) → (n ≡ 0 → ⊥) → form1 words.ordinalFlexionsPluralShort c ≡ shortFlexion s g n c
+  unfolding shortFlexion
+  short-more true zero h = absurd (h refl)
+  short-more false zero h = absurd (h refl)
+  short-more true (suc n) h = refl
+  short-more false (suc n) h = refl

@@ -1,3 +1,4 @@
+pub mod Pool
 pub mod OrdinalTables
 pub mod Ordinal
 pub mod DigitOrdinal

@@ -1,61 +1,59 @@
-// Ukrainian ordinals and years: the numbers of their stems, endings and words, and the rule that the code decides. The speller sees the
-// contracts alone.
+// Ukrainian ordinals and years: the places of their stems, endings and words, and the rule that the code decides. The speller sees the contracts
+// alone.
+mod places; // places.rt: the tables of uk.rs, with the place of each text
+mod pool; // pool.rt: the endings of digit ordinals, which have a pool of their own, so that all texts need not be made for one of them
+
 use uk::Settings;
 ghost use mathlib.Core.Path.{_≡_};
-ghost use mathlib.Core.Bool.{cond};
-ghost use Prim.Native.Nat.{_+_, _-_, _<_};
-ghost use lib.Dec.{eqb};
-ghost use Rattle.base.specs.Utf8.{form1, form2};
-ghost use Rattle.words.specs.Text.{text};
-ghost use Rattle.uk_ordinal.specs.OrdinalTables.{ordinalUnitBases, ordinalTensBases, year};
+ghost use mathlib.Core.Bool.{true, false};
+ghost use Prim.Native.Nat.{_-_, _≤_, _<_};
+ghost use lib.ListN.{length};
+ghost use Rattle.base.specs.Buffer.{over};
+ghost use Rattle.base.specs.Utf8.{utf8, form1, form2};
+ghost use Rattle.words.specs.Part.{part};
+ghost use Rattle.uk.specs.Pool.{ukPool};
+ghost use Rattle.uk_ordinal.specs.Pool.{shortPool};
+ghost use Rattle.uk_ordinal.specs.OrdinalTables.{ordinalZeroBase, oneBase, hundredBase, ordinalUnitBases, ordinalTensBases, year};
 ghost use Rattle.uk_ordinal.specs.Ordinal.{soft as softOf, flexion};
 ghost use Rattle.uk_ordinal.specs.DigitOrdinal.{shortFlexion};
 
-// Among all texts, those of ordinals start at 768. The fixed ones: нульов, одно, сот, н, до, н.е.
-pub const ZERO_BASE: u16 = 769;
-
-pub const ONE_BASE: u16 = 770;
-
-pub const HUNDRED_BASE: u16 = 771;
-
-pub const ADJECTIVE_N: u16 = 772;
-
-pub const BEFORE: u16 = 830;
-
-pub const OUR_ERA: u16 = 831;
-
-// Endings by gender and case, then those of the plural: four rows of hard ones, four of soft ones.
-const ENDINGS: [[u8; 6]; 8] = [
-    [23, 24, 25, 23, 26, 25],
-    [27, 28, 29, 30, 31, 29],
-    [32, 24, 25, 32, 26, 25],
-    [33, 34, 26, 34, 35, 34],
-    [29, 36, 37, 29, 38, 37],
-    [39, 40, 29, 41, 42, 29],
-    [43, 36, 37, 43, 38, 37],
-    [33, 44, 38, 44, 45, 44],
-];
-
-// The same of digit ordinals. Their plural has one table, so that it stands here twice.
-const SHORT_ENDINGS: [[u8; 6]; 8] = [
-    [46, 47, 48, 46, 49, 48],
-    [27, 50, 46, 30, 31, 46],
-    [32, 47, 48, 32, 49, 48],
-    [33, 51, 49, 51, 52, 51],
-    [46, 47, 48, 46, 49, 48],
-    [39, 50, 46, 41, 31, 46],
-    [43, 47, 48, 43, 49, 48],
-    [33, 51, 49, 51, 52, 51],
-];
-
-// The years' noun by grammatical number and case.
-const YEAR: [[u8; 6]; 2] = [[53, 54, 54, 53, 55, 56], [57, 58, 59, 57, 60, 61]];
-
-// The number among all texts of one of the ordinals' bank.
-fn number(id: u8) -> u16
-    ensures { λ r. ⌜ r ≡ 768 + id ⌝ }
+// The base of zero, of 1 in a compound, and of a round hundred.
+pub fn zero_base() -> u16
+    ensures { λ r. ⌜ part ukPool r ≡ utf8 ordinalZeroBase ⌝ }
 {
-    768 + id as u16
+    places::ORDINAL_ZERO_BASE
+}
+
+pub fn one_base() -> u16
+    ensures { λ r. ⌜ part ukPool r ≡ utf8 oneBase ⌝ }
+{
+    places::ONE_BASE
+}
+
+pub fn hundred_base() -> u16
+    ensures { λ r. ⌜ part ukPool r ≡ utf8 hundredBase ⌝ }
+{
+    places::HUNDRED_BASE
+}
+
+// What makes an adjective of a scale noun.
+pub fn adjective_n() -> u16
+    ensures { λ r. ⌜ part ukPool r ≡ utf8 "н" ⌝ }
+{
+    places::ADJECTIVE_N
+}
+
+// The two words of the years before our era.
+pub fn before_era() -> u16
+    ensures { λ r. ⌜ part ukPool r ≡ utf8 "до" ⌝ }
+{
+    places::BEFORE_ERA
+}
+
+pub fn our_era() -> u16
+    ensures { λ r. ⌜ part ukPool r ≡ utf8 "н.е." ⌝ }
+{
+    places::OUR_ERA
 }
 
 // Whether the ordinal of a number with these last two digits has a soft ending.
@@ -65,60 +63,105 @@ pub fn is_soft(n: u16) -> bool
     if n % 10 == 3 { n % 100 != 13 } else { false }
 }
 
-// The row of a table of endings.
-fn row(soft: bool, gender: usize, number: usize) -> usize
-    requires { ⌜ gender < 3 ⌝ }
-    ensures { λ r. ⌜ (r ≡ cond soft 4 0 + cond (eqb number 0) gender 3) × (r < 8) ⌝ }
+// A hard ending.
+fn hard_ending(settings: Settings) -> u16
+    requires { ⌜ (settings .gender < 3) × (settings .number < 2) × (settings .case < 6) ⌝ }
+    ensures { λ r. ⌜ part ukPool r ≡ flexion false (settings .gender) (settings .number) (settings .case) ⌝ }
 {
-    if soft {
-        if number == 0 { 4 + gender } else { 7 }
-    } else {
-        if number == 0 { gender } else { 3 }
+    let case = settings.case;
+    let gender = settings.gender;
+    if settings.number == 0 {
+        return places::ADJECTIVE_HARD_FLEXIONS_SINGULAR[gender][case];
     }
+    places::ADJECTIVE_HARD_FLEXIONS_PLURAL[case]
+}
+
+// A soft ending.
+fn soft_ending(settings: Settings) -> u16
+    requires { ⌜ (settings .gender < 3) × (settings .number < 2) × (settings .case < 6) ⌝ }
+    ensures { λ r. ⌜ part ukPool r ≡ flexion true (settings .gender) (settings .number) (settings .case) ⌝ }
+{
+    let case = settings.case;
+    let gender = settings.gender;
+    if settings.number == 0 {
+        return places::ADJECTIVE_SOFT_FLEXIONS_SINGULAR[gender][case];
+    }
+    places::ADJECTIVE_SOFT_FLEXIONS_PLURAL[case]
 }
 
 // The ending of an ordinal.
 pub fn ending(soft: bool, settings: Settings) -> u16
     requires { ⌜ (settings .gender < 3) × (settings .number < 2) × (settings .case < 6) ⌝ }
-    ensures { λ r. ⌜ text r ≡ flexion soft (settings .gender) (settings .number) (settings .case) ⌝ }
+    ensures { λ r. ⌜ part ukPool r ≡ flexion soft (settings .gender) (settings .number) (settings .case) ⌝ }
 {
-    let case = settings.case;
-    let i = row(soft, settings.gender, settings.number);
-    number(ENDINGS[i][case])
+    if soft {
+        return soft_ending(settings);
+    }
+    hard_ending(settings)
 }
 
-// The ending of a digit ordinal.
+// The ending of a digit ordinal: a place in the pool of these endings.
 pub fn short_ending(soft: bool, settings: Settings) -> u16
     requires { ⌜ (settings .gender < 3) × (settings .number < 2) × (settings .case < 6) ⌝ }
-    ensures { λ r. ⌜ text r ≡ shortFlexion soft (settings .gender) (settings .number) (settings .case) ⌝ }
+    ensures { λ r. ⌜ part shortPool r ≡ shortFlexion soft (settings .gender) (settings .number) (settings .case) ⌝ }
 {
     let case = settings.case;
-    let i = row(soft, settings.gender, settings.number);
-    number(SHORT_ENDINGS[i][case])
+    let gender = settings.gender;
+    if settings.number == 0 {
+        if soft {
+            return places::ORDINAL_SOFT_FLEXIONS_SINGULAR_SHORT[gender][case];
+        }
+        return places::ORDINAL_HARD_FLEXIONS_SINGULAR_SHORT[gender][case];
+    }
+    places::ORDINAL_FLEXIONS_PLURAL_SHORT[case]
+}
+
+// Those endings.
+fn texts() -> [u8; 30]
+    ensures { λ r. ⌜ r ≡ shortPool ⌝ }
+{
+    pool::POOL
+}
+
+// The length of one.
+pub fn short_len(place: u16) -> usize
+    ensures { λ r. ⌜ (r ≡ length (part shortPool place)) × (r < 40) ⌝ }
+{
+    let lent = texts();
+    words::len(&lent, place as u32)
+}
+
+// Writes one over the front of out.
+pub fn put_short(place: u16, out: &mut [u8]) -> usize
+    requires { ⌜ length (part shortPool place) ≤ length (now out) ⌝ }
+    ensures { λ r. ⌜ (r ≡ length (part shortPool place)) × (now (out .exit) ≡ over (now (out .entry)) (part shortPool place)) ⌝ }
+{
+    let lent = texts();
+    words::put(&lent, place as u32, out)
 }
 
 // The years' noun.
 pub fn year_word(settings: Settings) -> u16
     requires { ⌜ (settings .number < 2) × (settings .case < 6) ⌝ }
-    ensures { λ r. ⌜ text r ≡ form2 year (settings .number) (settings .case) ⌝ }
+    ensures { λ r. ⌜ part ukPool r ≡ form2 year (settings .number) (settings .case) ⌝ }
 {
     let case = settings.case;
     let i = settings.number;
-    number(YEAR[i][case])
+    places::YEAR[i][case]
 }
 
 // The base of a unit.
 pub fn unit_base(u: usize) -> u16
     requires { ⌜ (0 < u) × (u < 10) ⌝ }
-    ensures { λ r. ⌜ text r ≡ form1 ordinalUnitBases (u - 1) ⌝ }
+    ensures { λ r. ⌜ part ukPool r ≡ form1 ordinalUnitBases (u - 1) ⌝ }
 {
-    772 + u as u16
+    places::ORDINAL_UNIT_BASES[u - 1]
 }
 
 // The base of tens from 20 on.
 pub fn ten_base(t: usize) -> u16
     requires { ⌜ (1 < t) × (t < 10) ⌝ }
-    ensures { λ r. ⌜ text r ≡ form1 ordinalTensBases (t - 1) ⌝ }
+    ensures { λ r. ⌜ part ukPool r ≡ form1 ordinalTensBases (t - 1) ⌝ }
 {
-    781 + t as u16
+    places::ORDINAL_TENS_BASES[t - 1]
 }

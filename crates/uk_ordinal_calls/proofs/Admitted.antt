@@ -1,6 +1,6 @@
 -- What a refusal of 0 tells of settings and texts; the groups of a number; early years.
 -- Assumes nothing.
-use Prim.Native.Nat.{ℕ, zero, suc, _+_, _-_, _^_, _≤_, _<_}
+use Prim.Native.Nat.{ℕ, zero, suc, _^_, _≤_, _<_}
 use mathlib.Core.Path.{_≡_, refl, sym, ap, _∙_}
 use mathlib.Core.Bool.{Bool, true, false, cond, not, _&&_}
 use mathlib.Core.List.{List, [], _∷_}
@@ -42,10 +42,11 @@ unrefused g n c m e = go (inRange g n c) refl e
 plain-text : (xs : List ℕ) → wellFormed xs ≡ true → negative xs ≡ false → plain xs ≡ true
 plain-text xs f n = sym (ap plain (unsigned-plain xs n)) ∙ formed-unsigned xs f
 
-pub ordinal-digits : (xs : List ℕ) → refusedOrdinal xs ≡ 0 → digits xs ≡ true
+pub ordinal-digits : (xs : List ℕ) → refusedOrdinal xs ≡ 0 → (plain xs ≡ true) × (length xs ≤ 66)
 ordinal-digits xs e =
     let a = admitted (wellFormed xs) (negative xs && not false) (length (unsigned xs)) 66 (number-zero (judgeDigits false 66 xs) e) in
-    plain-digits xs (plain-text xs (a .formed) (unsigned-too (negative xs) (a .sign)))
+    let n = unsigned-too (negative xs) (a .sign) in
+    (plain-text xs (a .formed) n, rw (unsigned-plain xs n) at (a .within))
   where
     unsigned-too : (b : Bool) → (b && not false) ≡ false → b ≡ false
     unsigned-too true e = e

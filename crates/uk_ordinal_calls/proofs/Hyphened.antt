@@ -6,13 +6,17 @@ use mathlib.Core.Bool.{Bool}
 use mathlib.Core.List.{List, [], _∷_, _++_, append-assoc}
 use native.Mathlib.Numerals.{add-one}
 use native.Mathlib.Omega.{arith}
-use lib.ListN.{length, set, length-append}
-use lib.Seq.{drop-cons, set-append-seam}
+use lib.ListN.{length, take, drop, set, length-append}
+use lib.Seq.{drop-cons, set-append-seam, take-length}
 use Rattle.base.specs.Buffer.{over}
 use Rattle.figures.specs.Text.{value}
 use Rattle.uk_ordinal.specs.Ordinal.{soft}
 use Rattle.uk_ordinal.specs.DigitOrdinal.{shortFlexion, digitOrdinal}
 use Rattle.plan.proofs.Laws.{from, back, wrote}
+
+-- what a copy of all of w leaves
+pub whole : (r : ℕ) (w xs ys : List ℕ) → (r ≡ length w) × (ys ≡ take (length w) w ++ drop (length w) xs) → (r ≡ length w) × (ys ≡ over xs w)
+whole r w xs ys g = rw (take-length w) at g
 
 -- how long they are
 pub size-is : (t w : List ℕ) → length (t ++ (45 ∷ w)) ≡ length t + suc (length w)

@@ -8,7 +8,8 @@ ghost use Prim.Native.Nat.{_≤_, _<_};
 ghost use lib.ListN.{length};
 ghost use Rattle.base.specs.Buffer.{over};
 ghost use Rattle.base.specs.Answer.{fitted, Answers};
-ghost use Rattle.words.specs.Text.{text as textOf};
+ghost use Rattle.words.specs.Part.{part};
+ghost use Rattle.uk_ordinal.specs.Pool.{shortPool};
 ghost use Rattle.figures.specs.Text.{digits, value};
 ghost use Rattle.uk_ordinal.specs.Ordinal.{soft};
 ghost use Rattle.uk_ordinal.specs.DigitOrdinal.{digitOrdinal};
@@ -19,24 +20,24 @@ fn is_soft(text: &[u8]) -> bool
     ensures { λ r. ⌜ r ≡ soft (value (now (text .entry))) ⌝ }
 {
     let n = text.len();
-    if text[n - 1] == 51 {
+    if text[n - 1] == b'3' {
         if n == 1 {
             return true;
         }
-        return text[n - 2] != 49;
+        return text[n - 2] != b'1';
     }
     false
 }
 
-// Writes the digits, a hyphen and the ending with this number.
-fn put(text: &[u8], ending: u32, out: &mut [u8]) -> usize
-    requires { ⌜ length (now text ++ (45 ∷ textOf ending)) ≤ length (now out) ⌝ }
-    ensures { λ r. ⌜ (r ≡ length (now (text .entry) ++ (45 ∷ textOf ending))) × (now (out .exit) ≡ over (now (out .entry)) (now (text .entry) ++ (45 ∷ textOf ending))) ⌝ }
+// Writes the digits, a hyphen and the ending at this place of their pool.
+fn put(text: &[u8], ending: u16, out: &mut [u8]) -> usize
+    requires { ⌜ length (now text ++ (45 ∷ part shortPool ending)) ≤ length (now out) ⌝ }
+    ensures { λ r. ⌜ (r ≡ length (now (text .entry) ++ (45 ∷ part shortPool ending))) × (now (out .exit) ≡ over (now (out .entry)) (now (text .entry) ++ (45 ∷ part shortPool ending))) ⌝ }
 {
     let n = bytes::copy(text, out);
-    out[n] = 45;
+    out[n] = b'-';
     let k = n + 1;
-    let m = words::put(ending, &mut out[k..]);
+    let m = uk_ordinal::put_short(ending, &mut out[k..]);
     k + m
 }
 
@@ -46,10 +47,10 @@ pub fn say(settings: Settings, text: &[u8], out: &mut [u8]) -> Answer
     ensures { λ r. ⌜ Answers r (now (out .entry)) (now (out .exit)) (fitted (now (out .entry)) (digitOrdinal (settings .gender) (settings .number) (settings .case) (now (text .entry)))) ⌝ }
     ensures { λ r. ⌜ r .length ≤ 12320 ⌝ }
 {
-    let ending = uk_ordinal::short_ending(is_soft(text), settings) as u32;
+    let ending = uk_ordinal::short_ending(is_soft(text), settings);
     let n = text.len() + 1;
     if out.len() < n + 40 {
-        let size = n + words::len(ending);
+        let size = n + uk_ordinal::short_len(ending);
         if out.len() < size {
             return Answer {
                 number: 7,

@@ -7,8 +7,9 @@ use uk::Settings;
 ghost use mathlib.Core.Path.{_≡_};
 ghost use mathlib.Core.Bool.{true};
 ghost use Prim.Native.Nat.{_≤_, _<_};
+ghost use lib.ListN.{length};
 ghost use Rattle.base.specs.Answer.{fitted, replied, Answers};
-ghost use Rattle.figures.specs.Text.{digits as digitsOf};
+ghost use Rattle.figures.specs.Text.{plain};
 ghost use Rattle.uk.specs.Settings.{unlessSettings};
 ghost use Rattle.uk_ordinal.specs.DigitOrdinal.{digitOrdinal};
 ghost use Rattle.uk_ordinal.specs.Year.{early};
@@ -45,14 +46,14 @@ fn refuse_digit_ordinal(gender: u32, number: u32, case: u32, text: &[u8]) -> u32
 
 // The ordinal of an admitted text.
 fn say_ordinal(settings: Settings, text: &[u8], out: &mut [u8]) -> Answer
-    requires { ⌜ ((settings .gender < 3) × (settings .number < 2) × (settings .case < 6)) × (digitsOf (now text) ≡ true) ⌝ }
+    requires { ⌜ ((settings .gender < 3) × (settings .number < 2) × (settings .case < 6)) × (plain (now text) ≡ true) × (length (now text) ≤ 66) ⌝ }
     ensures { λ r. ⌜ Answers r (now (out .entry)) (now (out .exit)) (fitted (now (out .entry)) (ordinalPhrase (settings .gender) (settings .number) (settings .case) (now (text .entry)))) ⌝ }
     ensures { λ r. ⌜ r .length ≤ 12320 ⌝ }
 {
     let gs = groups::groups22(text);
     let mut plan = [0u32; 116];
-    let n = uk_ordinal_plan::plan_ordinal(settings, &gs, &mut plan);
-    plan::speak(&plan, n, out)
+    let n = uk_ordinal_plan::plan_ordinal(settings, groups::count(text), &gs, &mut plan);
+    uk::speak(&plan, n, out)
 }
 
 // A year.
@@ -64,8 +65,9 @@ fn say_year(settings: Settings, year: i64, out: &mut [u8]) -> Answer
     let mut gs = [0u16; 22];
     groups::groups_from(figures::year::magnitude(year), &mut gs);
     let mut plan = [0u32; 119];
-    let n = uk_ordinal_plan::plan_year(settings, is_early(year), &gs, &mut plan);
-    plan::speak(&plan, n, out)
+    let k = groups::top(&gs);
+    let n = uk_ordinal_plan::plan_year(settings, is_early(year), k, &gs, &mut plan);
+    uk::speak(&plan, n, out)
 }
 
 // The ordinal of a number text.
@@ -77,10 +79,7 @@ pub fn to_ordinal(gender: u32, number: u32, case: u32, text: &[u8], out: &mut [u
     if n == 0 {
         say_ordinal(uk::settings_of(gender, number, case), text, out)
     } else {
-        Answer {
-            number: n,
-            length: 0,
-        }
+        base::refused(n)
     }
 }
 
@@ -93,10 +92,7 @@ pub fn to_ordinal_num(gender: u32, number: u32, case: u32, text: &[u8], out: &mu
     if n == 0 {
         digits::say(uk::settings_of(gender, number, case), text, out)
     } else {
-        Answer {
-            number: n,
-            length: 0,
-        }
+        base::refused(n)
     }
 }
 
@@ -108,9 +104,6 @@ pub fn to_year(gender: u32, number: u32, case: u32, year: i64, out: &mut [u8]) -
     if uk::in_range(gender, number, case) {
         say_year(uk::settings_of(gender, number, case), year, out)
     } else {
-        Answer {
-            number: 1,
-            length: 0,
-        }
+        base::refused(1)
     }
 }

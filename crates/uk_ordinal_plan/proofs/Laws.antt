@@ -10,50 +10,50 @@ use Rattle.plan.specs.Plan.{Added, says, pieces}
 use Rattle.plan.specs.Speaks.{Speaks, none, whole, ended, Told}
 use Rattle.plan.proofs.Added.{stay, then, same}
 use Rattle.plan.proofs.Laws.{following-append}
-use Rattle.uk_ordinal_plan.specs.Said.{Begun, nothing, piece, Said, run, Ran, Spoken}
+use Rattle.uk_ordinal_plan.specs.Said.{LedBy, nothing, piece, Said, run, Ran, Spoken}
 
 -- the same bytes, in more room
-resay : {s k n r : ℕ} {xs ys b c : List ℕ} (i : ℕ) → Said s k xs n ys r b → k ≤ i → b ≡ c → Said s i xs n ys r c
-resay i a h e = record { pieces = a .pieces; added = same i (a .added) h refl; begun = a .begun; bytes = a .bytes ∙ e }
+resay : {pool : List ℕ} {s k n r : ℕ} {xs ys b c : List ℕ} (i : ℕ) → Said pool s k xs n ys r b → k ≤ i → b ≡ c → Said pool s i xs n ys r c
+resay i a h e = record { pieces = a .pieces; added = same i (a .added) h refl; led = a .led; bytes = a .bytes ∙ e }
 
--- one after the other, both begun alike
-begun-both : {s : ℕ} {ps qs : List Piece} → Begun s ps → Begun s qs → Begun s (ps ++ qs)
-begun-both nothing b = b
-begun-both {qs = qs} (piece w ps) b = piece w (ps ++ qs)
+-- one after the other, both led alike
+led-both : {s : ℕ} {ps qs : List Piece} → LedBy s ps → LedBy s qs → LedBy s (ps ++ qs)
+led-both nothing b = b
+led-both {qs = qs} (piece w ps) b = piece w (ps ++ qs)
 
-both : {s j k n m r : ℕ} {xs ys zs b c : List ℕ} (i : ℕ) → Said s j xs n ys m b → Said s k ys m zs r c → j + k ≤ i → Said s i xs n zs r (b ++ c)
-both i p q h = record {
+both : {pool : List ℕ} {s j k n m r : ℕ} {xs ys zs b c : List ℕ} (i : ℕ) → Said pool s j xs n ys m b → Said pool s k ys m zs r c → j + k ≤ i → Said pool s i xs n zs r (b ++ c)
+both {pool} i p q h = record {
   pieces = p .pieces ++ q .pieces;
   added = then i (p .added) (q .added) h;
-  begun = begun-both (p .begun) (q .begun);
+  led = led-both (p .led) (q .led);
   bytes = following-append (p .pieces) (q .pieces) ∙ rw (p .bytes, q .bytes) refl;
 }
 
 -- what runs on after something that was said
-begun-on : (s : ℕ) {ps qs : List Piece} (b : List ℕ) → Begun s ps → Begun 0 qs → following ps ≡ gap s ++ b → Begun s (ps ++ qs)
+led-on : (s : ℕ) {ps qs : List Piece} (b : List ℕ) → LedBy s ps → LedBy 0 qs → following ps ≡ gap s ++ b → LedBy s (ps ++ qs)
 unfolding following
-begun-on zero b p q e = begun-both p q
-begun-on (suc s) b nothing q e = let z : _≡_ {A = ℕ} 0 1 = cc in absurd (omega arith)
-begun-on (suc s) {qs = qs} b (piece w ps) q e = piece w (ps ++ qs)
+led-on zero b p q e = led-both p q
+led-on (suc s) b nothing q e = let z : _≡_ {A = ℕ} 0 1 = cc in absurd (omega arith)
+led-on (suc s) {qs = qs} b (piece w ps) q e = piece w (ps ++ qs)
 
-on : {s j k n m r : ℕ} {xs ys zs c : List ℕ} (b : List ℕ) (i : ℕ) → Said s j xs n ys m (gap s ++ b) → Said 0 k ys m zs r c → j + k ≤ i → Said s i xs n zs r (gap s ++ (b ++ c))
-on {s = s} {c = c} b i p q h = record {
+on : {pool : List ℕ} {s j k n m r : ℕ} {xs ys zs c : List ℕ} (b : List ℕ) (i : ℕ) → Said pool s j xs n ys m (gap s ++ b) → Said pool 0 k ys m zs r c → j + k ≤ i → Said pool s i xs n zs r (gap s ++ (b ++ c))
+on {pool} {s = s} {c = c} b i p q h = record {
   pieces = p .pieces ++ q .pieces;
   added = then i (p .added) (q .added) h;
-  begun = begun-on s b (p .begun) (q .begun) (p .bytes);
+  led = led-on s b (p .led) (q .led) (p .bytes);
   bytes = following-append (p .pieces) (q .pieces) ∙ rw (p .bytes, q .bytes) (append-assoc (gap s) b c);
 }
 
 -- words run together: none, one, more
-pub run-none : (s k : ℕ) (xs : List ℕ) (n : ℕ) → Ran s k xs n xs n []
+pub run-none : {pool : List ℕ} (s k : ℕ) (xs : List ℕ) (n : ℕ) → Ran pool s k xs n xs n []
 unfolding run following
-run-none s k xs n = record { said = record { pieces = []; added = stay k xs n; begun = nothing; bytes = refl } }
+run-none s k xs n = record { said = record { pieces = []; added = stay k xs n; led = nothing; bytes = refl } }
 
-pub run-one : {s n r : ℕ} {xs ys b w : List ℕ} → Added 1 xs n ys r ((s, b) ∷ []) → b ≡ w → Ran s 1 xs n ys r (w ∷ [])
+pub run-one : {pool : List ℕ} {s n r : ℕ} {xs ys b w : List ℕ} → Added pool 1 xs n ys r ((s, b) ∷ []) → b ≡ w → Ran pool s 1 xs n ys r (w ∷ [])
 unfolding run flatten following
-run-one {s = s} {b = b} a e = rw (← e) (record { said = record { pieces = (s, b) ∷ []; added = a; begun = piece b []; bytes = append-assoc (gap s) b [] } })
+run-one {s = s} {b = b} a e = rw (← e) (record { said = record { pieces = (s, b) ∷ []; added = a; led = piece b []; bytes = append-assoc (gap s) b [] } })
 
-pub rerun : {s k n r : ℕ} {xs ys : List ℕ} {us ws : List Word} (i : ℕ) → Ran s k xs n ys r us → k ≤ i → us ≡ ws → Ran s i xs n ys r ws
+pub rerun : {pool : List ℕ} {s k n r : ℕ} {xs ys : List ℕ} {us ws : List Word} (i : ℕ) → Ran pool s k xs n ys r us → k ≤ i → us ≡ ws → Ran pool s i xs n ys r ws
 rerun {s = s} i a h e = record { said = resay i (a .said) h (ap (run s) e) }
 
 run-on : (ws : List Word) → run 0 ws ≡ flatten ws
@@ -66,26 +66,26 @@ unfolding flatten
 flatten-append [] vs = refl
 flatten-append (u ∷ us) vs = rw (flatten-append us vs) (sym (append-assoc u (flatten us) (flatten vs)))
 
-pub run-more : {s j k n m r : ℕ} {xs ys zs w : List ℕ} {us vs : List Word} (i : ℕ) → Ran s j xs n ys m (w ∷ us) → Ran 0 k ys m zs r vs → j + k ≤ i
-    → Ran s i xs n zs r ((w ∷ us) ++ vs)
+pub run-more : {pool : List ℕ} {s j k n m r : ℕ} {xs ys zs w : List ℕ} {us vs : List Word} (i : ℕ) → Ran pool s j xs n ys m (w ∷ us) → Ran pool 0 k ys m zs r vs → j + k ≤ i
+    → Ran pool s i xs n zs r ((w ∷ us) ++ vs)
 unfolding run
 run-more {s = s} {w = w} {us = us} {vs = vs} i p q h =
     record { said = resay i (on (flatten (w ∷ us)) i (p .said) (q .said) h) (omega arith) (ap (λ (l : List ℕ). gap s ++ l) (rw (flatten-append (w ∷ us) vs, run-on vs) refl)) }
 
-pub run-then : {s j k n m r : ℕ} {xs ys zs : List ℕ} {us vs : List Word} (i : ℕ) → Ran s j xs n ys m us → Ran 0 k ys m zs r vs → j + k ≤ i → (us ≡ [] → ⊥)
-    → Ran s i xs n zs r (us ++ vs)
+pub run-then : {pool : List ℕ} {s j k n m r : ℕ} {xs ys zs : List ℕ} {us vs : List Word} (i : ℕ) → Ran pool s j xs n ys m us → Ran pool 0 k ys m zs r vs → j + k ≤ i → (us ≡ [] → ⊥)
+    → Ran pool s i xs n zs r (us ++ vs)
 run-then {us = []} i p q h z = absurd (z refl)
 run-then {us = u ∷ us} i p q h z = run-more i p q h
 
 -- a word of a stem and an ending
-pub run-ended : {s n m r : ℕ} {xs ys zs b c w v : List ℕ} → Added 1 xs n ys m ((s, b) ∷ []) → Added 1 ys m zs r ((0, c) ∷ []) → b ≡ w → c ≡ v → Ran s 2 xs n zs r ((w ++ v) ∷ [])
+pub run-ended : {pool : List ℕ} {s n m r : ℕ} {xs ys zs b c w v : List ℕ} → Added pool 1 xs n ys m ((s, b) ∷ []) → Added pool 1 ys m zs r ((0, c) ∷ []) → b ≡ w → c ≡ v → Ran pool s 2 xs n zs r ((w ++ v) ∷ [])
 unfolding run flatten
 run-ended {s = s} {w = w} {v = v} a d e f =
     let p = run-more 2 (run-one a e) (run-one d f) (omega arith) in
     record { said = resay 2 (p .said) (omega arith) (ap (λ (l : List ℕ). gap s ++ l) (sym (append-assoc w v []))) }
 
 -- words run together after a space are one word
-pub run-word : {k n r : ℕ} {xs ys : List ℕ} {ws : List Word} → Ran 32 k xs n ys r ws → (ws ≡ [] → ⊥) → Spoken k xs n ys r (flatten ws ∷ [])
+pub run-word : {pool : List ℕ} {k n r : ℕ} {xs ys : List ℕ} {ws : List Word} → Ran pool 32 k xs n ys r ws → (ws ≡ [] → ⊥) → Spoken pool k xs n ys r (flatten ws ∷ [])
 unfolding run
 run-word {ws = []} a z = absurd (z refl)
 run-word {k = k} {ws = w ∷ ws} a z = record { said = resay k (a .said) (omega arith) (ap (λ (l : List ℕ). 32 ∷ l) (sym (append-nil (flatten (w ∷ ws))))) }
@@ -97,33 +97,33 @@ follows none = refl
 follows (whole w s) = rw (follows s) refl
 follows (ended w e {ws = ws} s) = rw (follows s) (ap (λ (l : List ℕ). 32 ∷ l) (sym (append-assoc w e (spaced ws))))
 
-begins : {ps : List Piece} {ws : List Word} → Speaks ps ws → Begun 32 ps
+begins : {ps : List Piece} {ws : List Word} → Speaks ps ws → LedBy 32 ps
 begins none = nothing
 begins (whole w {ps = ps} s) = piece w ps
 begins (ended w e {ps = ps} s) = piece w ((0, e) ∷ ps)
 
-pub told : {k n r : ℕ} {xs ys : List ℕ} {ws : List Word} → Told k xs n ys r ws → Spoken k xs n ys r ws
-told t = record { said = record { pieces = t .pieces; added = t .added; begun = begins (t .speaks); bytes = follows (t .speaks) } }
+pub told : {pool : List ℕ} {k n r : ℕ} {xs ys : List ℕ} {ws : List Word} → Told pool k xs n ys r ws → Spoken pool k xs n ys r ws
+told t = record { said = record { pieces = t .pieces; added = t .added; led = begins (t .speaks); bytes = follows (t .speaks) } }
 
 -- words one after the other
 spaced-both : (us vs : List Word) → spaced (us ++ vs) ≡ spaced us ++ spaced vs
 spaced-both [] vs = refl
 spaced-both (u ∷ us) vs = rw (spaced-both us vs) (ap (λ (l : List ℕ). 32 ∷ l) (sym (append-assoc u (spaced us) (spaced vs))))
 
-pub speak : {j k n m r : ℕ} {xs ys zs : List ℕ} {us vs : List Word} (i : ℕ) → Spoken j xs n ys m us → Spoken k ys m zs r vs → j + k ≤ i → Spoken i xs n zs r (us ++ vs)
+pub speak : {pool : List ℕ} {j k n m r : ℕ} {xs ys zs : List ℕ} {us vs : List Word} (i : ℕ) → Spoken pool j xs n ys m us → Spoken pool k ys m zs r vs → j + k ≤ i → Spoken pool i xs n zs r (us ++ vs)
 speak {us = us} {vs = vs} i p q h = record { said = resay i (both i (p .said) (q .said) h) (omega arith) (sym (spaced-both us vs)) }
 
-pub respeak : {k n r : ℕ} {xs ys : List ℕ} {us ws : List Word} (i : ℕ) → Spoken k xs n ys r us → k ≤ i → us ≡ ws → Spoken i xs n ys r ws
+pub respeak : {pool : List ℕ} {k n r : ℕ} {xs ys : List ℕ} {us ws : List Word} (i : ℕ) → Spoken pool k xs n ys r us → k ≤ i → us ≡ ws → Spoken pool i xs n ys r ws
 respeak i a h e = record { said = resay i (a .said) h (ap spaced e) }
 
 -- a plan from its beginning: words
-joins : {ps : List Piece} (ws : List Word) → Begun 32 ps → following ps ≡ spaced ws → phrase ps ≡ joined ws
+joins : {ps : List Piece} (ws : List Word) → LedBy 32 ps → following ps ≡ spaced ws → phrase ps ≡ joined ws
 unfolding phrase following
 joins [] nothing e = refl
 joins (w ∷ ws) nothing e = let z : _≡_ {A = ℕ} 0 1 = cc in absurd (omega arith)
 joins [] (piece v ps) e = let z : _≡_ {A = ℕ} 0 1 = cc in absurd (omega arith)
 joins (w ∷ ws) (piece v ps) e = cc
 
-pub spoken-phrase : {k r : ℕ} {xs ys : List ℕ} {ws : List Word} → Spoken k xs 0 ys r ws → phrase (says ys r) ≡ joined ws
+pub spoken-phrase : {pool : List ℕ} {k r : ℕ} {xs ys : List ℕ} {ws : List Word} → Spoken pool k xs 0 ys r ws → phrase (says pool ys r) ≡ joined ws
 unfolding says pieces
-spoken-phrase {ws = ws} a = ap phrase (a .said .added .more) ∙ joins ws (a .said .begun) (a .said .bytes)
+spoken-phrase {ws = ws} a = ap phrase (a .said .added .more) ∙ joins ws (a .said .led) (a .said .bytes)

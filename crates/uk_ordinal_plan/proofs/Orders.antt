@@ -9,17 +9,17 @@ use native.Mathlib.Numerals.{add-one}
 use borrow.Author.Tests.{eq-eqb, ne-eqb, eqb-true}
 use lib.Dec.{eqb}
 use native.Mathlib.Decide.{ℕ-discrete, decLt}
-use lib.ListN.{length, getD, take, drop, set, drop-of-length-le, List·getD-eq-default}
-use lib.Seq.{take-all, drop-cons, set-out, getD-set-same, getD-set-other, getD-drop}
+use lib.ListN.{length, getD, drop, set, drop-of-length-le, List·getD-eq-default}
+use lib.Seq.{drop-cons, set-out, getD-set-same, getD-set-other, getD-drop}
 use Rattle.base.specs.Join.{Word}
 use Rattle.base.specs.Utf8.{utf8}
+use Rattle.groups.specs.Highest.{ZeroFrom, Highest}
 use Rattle.tables.proofs.Tests.{and-left, and-right}
 use Rattle.uk.specs.Rules.{Words}
 use Rattle.uk.specs.Ukrainian.{ukrainian}
 use Rattle.uk.specs.Cardinal.{groupOf, groupsBelow}
 use Rattle.uk_ordinal.specs.OrdinalTables.{ordinalZeroBase}
 use Rattle.uk_ordinal.specs.Ordinal.{soft, flexion, lowestWords, lowest, allZero, ordinalWords}
-use Rattle.uk_ordinal_plan.specs.Groups.{sumOf}
 
 -- the lowest from an order on
 pub lowest-here : (gs : List ℕ) (i : ℕ) → i < length gs → (getD gs i 0 ≡ 0 → ⊥) → lowest (drop i gs) ≡ 0
@@ -38,34 +38,45 @@ pub lowest-none : (gs : List ℕ) (i : ℕ) → length gs ≤ i → lowest (drop
 unfolding lowest
 lowest-none gs i h = rw (drop-of-length-le gs {i = i} h) refl
 
--- groups added up: one more, and what the sum tells
-pub sum-next : (gs : List ℕ) (i : ℕ) → i < length gs → sumOf (take (i + 1) gs) ≡ sumOf (take i gs) + getD gs i 0
-unfolding sumOf
-sum-next gs i h = rw (add-one i) (go gs i h)
+-- all groups are zero, and not all
+all-zeros : (gs : List ℕ) → ((i : ℕ) → getD gs i 0 ≡ 0) → allZero gs ≡ true
+unfolding allZero
+all-zeros [] z = refl
+all-zeros (g ∷ gs) z = rw (eq-eqb g 0 (z 0)) (all-zeros gs (λ i. z (suc i)))
+
+some-not : (gs : List ℕ) (i : ℕ) → (getD gs i 0 ≡ 0 → ⊥) → allZero gs ≡ false
+unfolding allZero
+some-not [] i n = absurd (n refl)
+some-not (g ∷ gs) zero n = rw (ne-eqb g 0 n) refl
+some-not (g ∷ gs) (suc i) n = go (eqb g 0) (some-not gs i n)
   where
-    go : (gs : List ℕ) (i : ℕ) → i < length gs → sumOf (take (suc i) gs) ≡ sumOf (take i gs) + getD gs i 0
-    go [] i h = absurd (omega arith)
-    go (g ∷ gs) zero h = omega arith
-    go (g ∷ gs) (suc i) h = omega (arith, go gs i (omega arith))
+    go : (b : Bool) → allZero gs ≡ false → (b && allZero gs) ≡ false
+    go true e = e
+    go false e = refl
 
-pub sum-all : (gs : List ℕ) (i : ℕ) → length gs ≤ i → sumOf (take i gs) ≡ sumOf gs
-sum-all gs i h = rw (take-all i gs h) refl
+-- a group that is not zero is the only one above those below it just where the orders end with it
+pub lone-is : (gs : List ℕ) (n k : ℕ) → Highest gs n → (getD gs k 0 ≡ 0 → ⊥) → eqb (k + 1) n ≡ allZero (drop (suc k) gs)
+lone-is gs n k t s = go (ℕ-discrete (k + 1) n)
+  where
+    go : Dec (k + 1 ≡ n) → eqb (k + 1) n ≡ allZero (drop (suc k) gs)
+    go (yes e) = eq-eqb (k + 1) n e ∙ sym (all-zeros (drop (suc k) gs) (λ i. rw (getD-drop (suc k) gs i 0) (t .zeros (suc k + i) (omega arith))))
+    go (no e) =
+        let l : k < n = within (decLt k n) in
+        let q : suc k + (n - 1 - suc k) ≡ n - 1 = omega (arith, e) in
+        ne-eqb (k + 1) n e ∙ sym (some-not (drop (suc k) gs) (n - 1 - suc k) (λ z. t .some (omega (arith, e)) (ap (λ (i : ℕ). getD gs i 0) (sym q) ∙ sym (getD-drop (suc k) gs (n - 1 - suc k) 0) ∙ z)))
+      where
+        within : Dec (k < n) → k < n
+        within (yes h) = h
+        within (no h) = absurd (s (t .zeros k (omega arith)))
 
-sum-zeros : (gs : List ℕ) → allZero gs ≡ eqb (sumOf gs) 0
-unfolding allZero sumOf
-sum-zeros [] = refl
-sum-zeros (zero ∷ gs) = let e : 0 + sumOf gs ≡ sumOf gs = omega arith in rw e (sum-zeros gs)
-sum-zeros (suc g ∷ gs) = rw (ne-eqb (suc g) 0 (λ e. omega arith), ne-eqb (suc g + sumOf gs) 0 (λ e. omega arith)) refl
-
-same-sum : (g n : ℕ) → eqb n 0 ≡ eqb (g + n) g
-same-sum g zero = sym (eq-eqb (g + 0) g (omega arith))
-same-sum g (suc n) = ne-eqb (suc n) 0 (λ e. omega arith) ∙ sym (ne-eqb (g + suc n) g (λ e. omega arith))
-
-pub sum-lone : (gs : List ℕ) → lowest gs < length gs → eqb (sumOf gs) (getD gs (lowest gs) 0) ≡ allZero (drop (suc (lowest gs)) gs)
-unfolding lowest sumOf
-sum-lone [] h = absurd (omega arith)
-sum-lone (zero ∷ gs) h = let e : 0 + sumOf gs ≡ sumOf gs = omega arith in rw e (sum-lone gs (omega arith))
-sum-lone (suc g ∷ gs) h = sym (sum-zeros gs ∙ same-sum (suc g) (sumOf gs))
+-- groups above which all are zero stay so where one becomes zero
+pub zeros-set : (gs : List ℕ) (n k : ℕ) → ZeroFrom gs n → ZeroFrom (set gs k 0) n
+zeros-set gs n k z i h = go (ℕ-discrete i k) (decLt k (length gs))
+  where
+    go : Dec (i ≡ k) → Dec (k < length gs) → getD (set gs k 0) i 0 ≡ 0
+    go (yes e) (yes l) = rw e (getD-set-same gs k 0 0 l)
+    go d (no l) = rw (set-out gs k 0 (omega arith)) (z i h)
+    go (no e) (yes l) = getD-set-other gs k i 0 0 e ∙ z i h
 
 -- the group at the lowest order, those below it, and those above it where they are zeros
 pub lowest-some : (gs : List ℕ) → lowest gs < length gs → 0 < getD gs (lowest gs) 0

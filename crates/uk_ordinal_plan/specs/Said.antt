@@ -8,15 +8,15 @@ use Rattle.plan.specs.Phrase.{Piece, gap, following}
 use Rattle.plan.specs.Plan.{Added}
 
 -- no pieces, or the first has the separator s
-pub data Begun (s : ℕ) : List Piece → Type 0 where
-  nothing : Begun s []
-  piece : (w : Word) (ps : List Piece) → Begun s ((s, w) ∷ ps)
+pub data LedBy (s : ℕ) : List Piece → Type 0 where
+  nothing : LedBy s []
+  piece : (w : Word) (ps : List Piece) → LedBy s ((s, w) ∷ ps)
 
--- the plan xs of which n are written has become ys with r written, by at most k more, begun with the separator s, which say the bytes b
-pub record Said (s k : ℕ) (xs : List ℕ) (n : ℕ) (ys : List ℕ) (r : ℕ) (b : List ℕ) : Type 0 where
+-- the plan xs of which n are written has become ys with r written, by at most k more, led by the separator s, which say the bytes b
+pub record Said (pool : List ℕ) (s k : ℕ) (xs : List ℕ) (n : ℕ) (ys : List ℕ) (r : ℕ) (b : List ℕ) : Type 0 where
   pub pieces : List Piece
-  pub added : Added k xs n ys r pieces
-  pub begun : Begun s pieces
+  pub added : Added pool k xs n ys r pieces
+  pub led : LedBy s pieces
   pub bytes : following pieces ≡ b
 
 -- words run together after the separator s; nothing for none
@@ -25,9 +25,9 @@ run s [] = []
 run s (w ∷ ws) = gap s ++ flatten (w ∷ ws)
 
 -- `Said` of the words ws, run together after the separator s
-pub record Ran (s k : ℕ) (xs : List ℕ) (n : ℕ) (ys : List ℕ) (r : ℕ) (ws : List Word) : Type 0 where
-  pub said : Said s k xs n ys r (run s ws)
+pub record Ran (pool : List ℕ) (s k : ℕ) (xs : List ℕ) (n : ℕ) (ys : List ℕ) (r : ℕ) (ws : List Word) : Type 0 where
+  pub said : Said pool s k xs n ys r (run s ws)
 
 -- `Said` of the words ws, each after a space
-pub record Spoken (k : ℕ) (xs : List ℕ) (n : ℕ) (ys : List ℕ) (r : ℕ) (ws : List Word) : Type 0 where
-  pub said : Said 32 k xs n ys r (spaced ws)
+pub record Spoken (pool : List ℕ) (k : ℕ) (xs : List ℕ) (n : ℕ) (ys : List ℕ) (r : ℕ) (ws : List Word) : Type 0 where
+  pub said : Said pool 32 k xs n ys r (spaced ws)

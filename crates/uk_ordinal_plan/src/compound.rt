@@ -2,7 +2,6 @@
 use plan::push;
 use uk_plan::ON;
 use uk_plan::SPACE;
-use uk_plan::say;
 ghost use mathlib.Core.Path.{_≡_};
 ghost use mathlib.Core.Bool.{_&&_};
 ghost use mathlib.Core.List.{[], _∷_};
@@ -10,62 +9,67 @@ ghost use Prim.Native.Nat.{_+_, _-_, _≤_, _<_};
 ghost use lib.Dec.{eqb};
 ghost use lib.ListN.{length};
 ghost use Rattle.base.specs.Utf8.{utf8, form1};
-ghost use Rattle.words.specs.Text.{text};
+ghost use Rattle.words.specs.Part.{part};
+ghost use Rattle.uk.specs.Pool.{ukPool};
 ghost use Rattle.uk.specs.UkTables.{megaBases};
 ghost use Rattle.uk.specs.Rules.{opt, lowWords, numWords};
-ghost use Rattle.uk.specs.Columns.{Column};
 ghost use Rattle.uk_ordinal.specs.Ordinal.{compounds, scaleWord};
 ghost use Rattle.uk_ordinal_plan.specs.Said.{Ran, Spoken};
 
+// The gender and the case of a compound's words.
+const MASCULINE: usize = 0;
+
+const GENITIVE: usize = 1;
+
 // A compound's unit, if any; what is said begins with the separator.
-fn count_unit(ids: &[u8], u: usize, separator: u8, plan: &mut [u32], at: usize) -> usize
-    requires { ⌜ Column 1 (now ids) × (u < 10) × (at < length (now plan)) ⌝ }
-    ensures { λ r. ⌜ Ran separator 1 (now (plan .entry)) at (now (plan .exit)) r (opt (compounds .unit 0) u) ⌝ }
+fn count_unit(u: usize, separator: u8, plan: &mut [u32], at: usize) -> usize
+    requires { ⌜ (u < 10) × (at < length (now plan)) ⌝ }
+    ensures { λ r. ⌜ Ran ukPool separator 1 (now (plan .entry)) at (now (plan .exit)) r (opt (compounds .unit 0) u) ⌝ }
 {
     if u == 0 {
         return at;
     }
     if u == 1 {
-        return push(plan, at, separator, uk_ordinal::ONE_BASE);
+        return push(plan, at, separator, uk_ordinal::one_base());
     }
-    say(ids, u, separator, plan, at)
+    push(plan, at, separator, uk::unit(MASCULINE, GENITIVE, u))
 }
 
 // A compound's teen, or its tens if any and its unit if any.
-fn count_low(ids: &[u8], t: usize, u: usize, separator: u8, plan: &mut [u32], at: usize) -> usize
-    requires { ⌜ Column 1 (now ids) × (t < 10) × (u < 10) × (at + 2 ≤ length (now plan)) ⌝ }
-    ensures { λ r. ⌜ Ran separator 2 (now (plan .entry)) at (now (plan .exit)) r (lowWords compounds 0 t u) ⌝ }
+fn count_low(t: usize, u: usize, separator: u8, plan: &mut [u32], at: usize) -> usize
+    requires { ⌜ (t < 10) × (u < 10) × (at + 2 ≤ length (now plan)) ⌝ }
+    ensures { λ r. ⌜ Ran ukPool separator 2 (now (plan .entry)) at (now (plan .exit)) r (lowWords compounds 0 t u) ⌝ }
 {
     if t == 0 {
-        return count_unit(ids, u, separator, plan, at);
+        return count_unit(u, separator, plan, at);
     }
     if t == 1 {
-        let k = say(ids, 28 + u, separator, plan, at);
-        return say(ids, 63, ON, plan, k);
+        let k = push(plan, at, separator, uk::teen(u));
+        return push(plan, k, ON, uk::teen_ending(GENITIVE));
     }
-    let k = say(ids, 36 + t, separator, plan, at);
-    count_unit(ids, u, ON, plan, k)
+    let k = push(plan, at, separator, uk::ten(GENITIVE, t));
+    count_unit(u, ON, plan, k)
 }
 
 // What counts a scale in a compound.
-fn count(ids: &[u8], h: usize, t: usize, u: usize, plan: &mut [u32], at: usize) -> usize
-    requires { ⌜ Column 1 (now ids) × (h < 10) × (t < 10) × (u < 10) × (at + 3 ≤ length (now plan)) ⌝ }
-    ensures { λ r. ⌜ Ran 32 3 (now (plan .entry)) at (now (plan .exit)) r (numWords compounds 0 h t u) ⌝ }
+fn count(h: usize, t: usize, u: usize, plan: &mut [u32], at: usize) -> usize
+    requires { ⌜ (h < 10) × (t < 10) × (u < 10) × (at + 3 ≤ length (now plan)) ⌝ }
+    ensures { λ r. ⌜ Ran ukPool 32 3 (now (plan .entry)) at (now (plan .exit)) r (numWords compounds 0 h t u) ⌝ }
 {
     if h == 0 {
-        return count_low(ids, t, u, SPACE, plan, at);
+        return count_low(t, u, SPACE, plan, at);
     }
-    let k = say(ids, 45 + h, SPACE, plan, at);
-    count_low(ids, t, u, ON, plan, k)
+    let k = push(plan, at, SPACE, uk::hundred(GENITIVE, h));
+    count_low(t, u, ON, plan, k)
 }
 
 // The base of a scale, its adjective's н, and the ending.
-fn scale(ids: &[u8], order: usize, separator: u8, ending: u16, plan: &mut [u32], at: usize) -> usize
-    requires { ⌜ Column 1 (now ids) × (0 < order) × (order < 22) × (at + 3 ≤ length (now plan)) ⌝ }
-    ensures { λ r. ⌜ Ran separator 3 (now (plan .entry)) at (now (plan .exit)) r (form1 megaBases (order - 1) ∷ utf8 "н" ∷ text ending ∷ []) ⌝ }
+fn scale(order: usize, separator: u8, ending: u16, plan: &mut [u32], at: usize) -> usize
+    requires { ⌜ (0 < order) × (order < 22) × (at + 3 ≤ length (now plan)) ⌝ }
+    ensures { λ r. ⌜ Ran ukPool separator 3 (now (plan .entry)) at (now (plan .exit)) r (form1 megaBases (order - 1) ∷ utf8 "н" ∷ part ukPool ending ∷ []) ⌝ }
 {
-    let a = say(ids, 63 + order, separator, plan, at);
-    let b = push(plan, a, ON, uk_ordinal::ADJECTIVE_N);
+    let a = push(plan, at, separator, uk::scale(order));
+    let b = push(plan, a, ON, uk_ordinal::adjective_n());
     push(plan, b, ON, ending)
 }
 
@@ -86,12 +90,11 @@ pub fn scale_word(
     at: usize,
 ) -> usize
     requires { ⌜ (0 < order) × (order < 22) × (0 < g) × (g < 1000) × (at + 6 ≤ length (now plan)) ⌝ }
-    ensures { λ r. ⌜ Spoken 6 (now (plan .entry)) at (now (plan .exit)) r (scaleWord (text ending) lone order g ∷ []) ⌝ }
+    ensures { λ r. ⌜ Spoken ukPool 6 (now (plan .entry)) at (now (plan .exit)) r (scaleWord (part ukPool ending) lone order g ∷ []) ⌝ }
 {
-    let ids = uk::column(1);
     if is_bare(lone, g) {
-        return scale(&ids, order, SPACE, ending, plan, at);
+        return scale(order, SPACE, ending, plan, at);
     }
-    let k = count(&ids, g / 100 % 10, g / 10 % 10, g % 10, plan, at);
-    scale(&ids, order, ON, ending, plan, k)
+    let k = count(g / 100 % 10, g / 10 % 10, g % 10, plan, at);
+    scale(order, ON, ending, plan, k)
 }

@@ -2,56 +2,48 @@
 use plan::push;
 use uk_plan::ON;
 use uk_plan::SPACE;
-use uk_plan::say;
+use uk_plan::hundred_word;
 ghost use mathlib.Core.Path.{_≡_};
 ghost use mathlib.Core.List.{[], _∷_, _++_};
 ghost use Prim.Native.Nat.{_+_, _/_, _%_, _≤_, _<_};
 ghost use lib.ListN.{length};
 ghost use Rattle.base.specs.Utf8.{utf8};
-ghost use Rattle.words.specs.Text.{text};
+ghost use Rattle.words.specs.Part.{part};
+ghost use Rattle.uk.specs.Pool.{ukPool};
 ghost use Rattle.plan.specs.Speaks.{Told};
 ghost use Rattle.uk.specs.Rules.{opt};
 ghost use Rattle.uk.specs.Ukrainian.{ukrainian};
-ghost use Rattle.uk.specs.Columns.{Column};
 ghost use Rattle.uk_ordinal.specs.OrdinalTables.{ordinalZeroBase};
 ghost use Rattle.uk_ordinal.specs.Ordinal.{tailWords, plainWords};
 
-// The nominative hundred word, if any.
-fn hundred_word(ids: &[u8], h: usize, plan: &mut [u32], at: usize) -> usize
-    requires { ⌜ Column 0 (now ids) × (h < 10) × (at < length (now plan)) ⌝ }
-    ensures { λ r. ⌜ Told 1 (now (plan .entry)) at (now (plan .exit)) r (opt (ukrainian 0 0 .hundred) h) ⌝ }
-{
-    if h == 0 {
-        return at;
-    }
-    say(ids, 45 + h, SPACE, plan, at)
-}
+// The case of the words before the last.
+const NOMINATIVE: usize = 0;
 
 // The nominative tens word, if any.
-fn ten_word(ids: &[u8], t: usize, plan: &mut [u32], at: usize) -> usize
-    requires { ⌜ Column 0 (now ids) × ((t ≡ 1 → ⊥) × (t < 10)) × (at < length (now plan)) ⌝ }
-    ensures { λ r. ⌜ Told 1 (now (plan .entry)) at (now (plan .exit)) r (opt (ukrainian 0 0 .ten) t) ⌝ }
+fn ten_word(t: usize, plan: &mut [u32], at: usize) -> usize
+    requires { ⌜ ((t ≡ 1 → ⊥) × (t < 10)) × (at < length (now plan)) ⌝ }
+    ensures { λ r. ⌜ Told ukPool 1 (now (plan .entry)) at (now (plan .exit)) r (opt (ukrainian 0 0 .ten) t) ⌝ }
 {
     if t == 0 {
         return at;
     }
-    say(ids, 36 + t, SPACE, plan, at)
+    push(plan, at, SPACE, uk::ten(NOMINATIVE, t))
 }
 
 // The tens and units that carry the ending.
-fn tail_words(ids: &[u8], t: usize, u: usize, ending: u16, plan: &mut [u32], at: usize) -> usize
-    requires { ⌜ Column 0 (now ids) × (0 < t + u) × (t < 10) × (u < 10) × (at + 3 ≤ length (now plan)) ⌝ }
-    ensures { λ r. ⌜ Told 3 (now (plan .entry)) at (now (plan .exit)) r (tailWords (text ending) t u) ⌝ }
+fn tail_words(t: usize, u: usize, ending: u16, plan: &mut [u32], at: usize) -> usize
+    requires { ⌜ (0 < t + u) × (t < 10) × (u < 10) × (at + 3 ≤ length (now plan)) ⌝ }
+    ensures { λ r. ⌜ Told ukPool 3 (now (plan .entry)) at (now (plan .exit)) r (tailWords (part ukPool ending) t u) ⌝ }
 {
     if t == 1 {
-        let a = say(ids, 28 + u, SPACE, plan, at);
+        let a = push(plan, at, SPACE, uk::teen(u));
         return push(plan, a, ON, ending);
     }
     if u == 0 {
         let a = push(plan, at, SPACE, uk_ordinal::ten_base(t));
         return push(plan, a, ON, ending);
     }
-    let a = ten_word(ids, t, plan, at);
+    let a = ten_word(t, plan, at);
     let b = push(plan, a, SPACE, uk_ordinal::unit_base(u));
     push(plan, b, ON, ending)
 }
@@ -59,22 +51,21 @@ fn tail_words(ids: &[u8], t: usize, u: usize, ending: u16, plan: &mut [u32], at:
 // The lowest group at order 0.
 pub fn plain_words(g: usize, ending: u16, plan: &mut [u32], at: usize) -> usize
     requires { ⌜ at + 4 ≤ length (now plan) ⌝ }
-    ensures { λ r. ⌜ Told 4 (now (plan .entry)) at (now (plan .exit)) r (plainWords (text ending) (g / 100 % 10) (g / 10 % 10) (g % 10)) ⌝ }
+    ensures { λ r. ⌜ Told ukPool 4 (now (plan .entry)) at (now (plan .exit)) r (plainWords (part ukPool ending) (g / 100 % 10) (g / 10 % 10) (g % 10)) ⌝ }
 {
     if g % 100 == 0 {
-        let a = push(plan, at, SPACE, uk_ordinal::HUNDRED_BASE);
+        let a = push(plan, at, SPACE, uk_ordinal::hundred_base());
         return push(plan, a, ON, ending);
     }
-    let ids = uk::column(0);
-    let a = hundred_word(&ids, g / 100 % 10, plan, at);
-    tail_words(&ids, g / 10 % 10, g % 10, ending, plan, a)
+    let a = hundred_word(NOMINATIVE, g / 100 % 10, plan, at);
+    tail_words(g / 10 % 10, g % 10, ending, plan, a)
 }
 
 // Zero's word.
 pub fn zero_word(ending: u16, plan: &mut [u32], at: usize) -> usize
     requires { ⌜ at + 2 ≤ length (now plan) ⌝ }
-    ensures { λ r. ⌜ Told 2 (now (plan .entry)) at (now (plan .exit)) r ((utf8 ordinalZeroBase ++ text ending) ∷ []) ⌝ }
+    ensures { λ r. ⌜ Told ukPool 2 (now (plan .entry)) at (now (plan .exit)) r ((utf8 ordinalZeroBase ++ part ukPool ending) ∷ []) ⌝ }
 {
-    let a = push(plan, at, SPACE, uk_ordinal::ZERO_BASE);
+    let a = push(plan, at, SPACE, uk_ordinal::zero_base());
     push(plan, a, ON, ending)
 }

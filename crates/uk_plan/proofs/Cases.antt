@@ -1,21 +1,17 @@
 -- The cases of the cardinals' words as the code's tests have them.
 -- Assumes nothing.
-use Prim.Native.String.{String}
-use Prim.Native.Nat.{ℕ, zero, suc, _+_, _-_, _*_, _/_, _%_, _≤_, _<_}
+use Prim.Native.Nat.{ℕ, zero, suc, _-_, _/_, _%_, _≤_, _<_}
 use mathlib.Core.Path.{_≡_, refl, sym, ap, _∙_}
-use mathlib.Core.Bool.{Bool, true, false, cond, _&&_}
-use lib.Dec.{eqb}
+use mathlib.Core.Bool.{Bool, true, false}
 use mathlib.Core.List.{List, [], _∷_, _++_, append-assoc}
 use native.Mathlib.Omega.{arith}
-use borrow.Author.Tests.{eq-eqb, ne-eqb}
+use native.Mathlib.Decide.{decLt}
 use lib.ListN.{getD}
 use Rattle.base.specs.Join.{Word}
-use Rattle.base.specs.Utf8.{form1, form2}
-use Rattle.uk.specs.UkTables.{megaBases, thousandFlexions, megaFlexions}
-use Rattle.uk.specs.Rules.{Words, opt, lowWords, numWords, nounWords, groupWords}
-use Rattle.uk.specs.Ukrainian.{many, agreedNumber, agreedCase, scaleEnding, nounForm, ukrainian}
-use Rattle.uk.specs.Columns.{agreement, ending}
-use Rattle.uk.specs.Cardinal.{groupOf, groupsBelow}
+use Rattle.groups.specs.Highest.{ZeroFrom}
+use Rattle.uk.specs.Rules.{Words, opt, lowWords, nounWords}
+use Rattle.uk.specs.Ukrainian.{genderAt, ukrainian}
+use Rattle.uk.specs.Cardinal.{groupOf, groupsBelow, signWords}
 
 pub opt-none : (w : ℕ → Word) (d : ℕ) → d ≡ 0 → [] ≡ opt w d
 opt-none w d e = rw e refl
@@ -33,21 +29,22 @@ pub noun-some : (W : Words) (k t u : ℕ) → (k ≡ 0 → ⊥) → W .noun k t 
 noun-some W zero t u n = absurd (n refl)
 noun-some W (suc k) t u n = refl
 
--- the scale noun's ending by agreement
-agreed-ending : (f : List (List String)) (a : Bool) (b : Bool) (case : ℕ)
-    → ending f (cond a 2 (cond b 0 1)) case ≡ form2 f (cond a 1 (cond b 0 1)) (cond (a && eqb case 0) 1 case)
-unfolding ending
-agreed-ending f true b case = refl
-agreed-ending f false true case = refl
-agreed-ending f false false case = refl
+-- the gender of an order, and what the gender does not change
+pub low-at : (g case k t u : ℕ) → lowWords (ukrainian (genderAt k g) case) 0 t u ≡ lowWords (ukrainian g case) k t u
+unfolding ukrainian
+low-at g case k zero u = refl
+low-at g case k (suc zero) u = refl
+low-at g case k (suc (suc t)) u = refl
 
-pub ending-one : (k t u case : ℕ) → k ≡ 1 → ending thousandFlexions (agreement t u) case ≡ scaleEnding k (agreedNumber t u) (agreedCase t u case)
-unfolding scaleEnding
-ending-one k t u case e = agreed-ending thousandFlexions (many t u) (eqb u 1) case ∙ rw (eq-eqb k 1 e) refl
+pub noun-any : (g case k t u : ℕ) → nounWords (ukrainian 0 case) k t u ≡ nounWords (ukrainian g case) k t u
+unfolding ukrainian
+noun-any g case zero t u = refl
+noun-any g case (suc k) t u = refl
 
-pub ending-more : (k t u case : ℕ) → (k ≡ 1 → ⊥) → ending megaFlexions (agreement t u) case ≡ scaleEnding k (agreedNumber t u) (agreedCase t u case)
-unfolding scaleEnding
-ending-more k t u case e = agreed-ending megaFlexions (many t u) (eqb u 1) case ∙ rw (ne-eqb k 1 e) refl
+pub sign-any : (g case : ℕ) (negative : Bool) → signWords (ukrainian 0 0) negative ≡ signWords (ukrainian g case) negative
+unfolding ukrainian
+sign-any g case true = refl
+sign-any g case false = refl
 
 pub group-some : (W : Words) (k g : ℕ) → (g ≡ 0 → ⊥)
     → opt (W .hundred) (g / 100 % 10) ++ (lowWords W k (g / 10 % 10) (g % 10) ++ nounWords W k (g / 10 % 10) (g % 10)) ≡ groupOf W k g
@@ -61,7 +58,12 @@ unfolding groupsBelow
 groups-more W zero gs n = absurd (n refl)
 groups-more W (suc k) gs n = let e : suc k - 1 ≡ k = omega arith in rw e refl
 
--- a group of 0 says nothing
-pub groups-skip : (W : Words) (n : ℕ) (gs : List ℕ) → (n ≡ 0 → ⊥) → getD gs (n - 1) 0 ≡ 0 → groupsBelow W (n - 1) gs ≡ groupsBelow W n gs
-unfolding groupOf
-groups-skip W n gs z e = rw e at (groups-more W n gs z)
+-- groups that are 0 say nothing
+pub groups-high : (W : Words) (gs : List ℕ) (n m : ℕ) → ZeroFrom gs n → n ≤ m → groupsBelow W n gs ≡ groupsBelow W m gs
+unfolding groupsBelow groupOf
+groups-high W gs n zero z h = let e : n ≡ 0 = omega arith in rw e refl
+groups-high W gs n (suc m) z h = go (decLt n (suc m)) (groups-high W gs n m z)
+  where
+    go : Dec (n < suc m) → (n ≤ m → groupsBelow W n gs ≡ groupsBelow W m gs) → groupsBelow W n gs ≡ groupsBelow W (suc m) gs
+    go (no g) f = let e : n ≡ suc m = omega arith in rw e refl
+    go (yes g) f = f (omega arith) ∙ sym (ap (λ (x : ℕ). groupOf W m x ++ groupsBelow W m gs) (z m (omega arith)))

@@ -1,20 +1,17 @@
 -- The groups below an order, where the next group's order is known: none, or that group and those below it.
 -- Assumes nothing.
-use Prim.Native.Nat.{ℕ, zero, suc, _+_, _-_, _*_, _<_, _≤_}
+use Prim.Native.Nat.{ℕ, zero, suc, _+_, _-_, _<_, _≤_}
 use mathlib.Core.Path.{_≡_, refl, sym, _∙_, ap}
-use mathlib.Core.Bool.{Bool, true, false, cond}
-use mathlib.Core.List.{List, [], _∷_, _++_, append-assoc, append-nil}
+use mathlib.Core.List.{List, [], _∷_, _++_, append-assoc}
 use native.Mathlib.Omega.{arith}
-use native.Mathlib.Decide.{ℕ-discrete}
 use borrow.Author.Tests.{eq-eqb, ne-eqb}
-use lib.Dec.{eqb}
 use lib.ListN.{length, length-take, take, drop, set, replicate, take-append-drop, length-replicate, replicate-append-replicate}
-use lib.Seq.{drop-drop, length-take-le, set-split, take-take, take-set-le, take-append-le, drop-append-le, drop-append-seam, take-append-seam}
+use lib.Seq.{drop-drop, length-take-le, set-split, take-take, take-set-le, drop-append-le, drop-append-seam, take-append-seam}
 use Rattle.base.specs.Join.{Word}
 use Rattle.figures.specs.Groups.{Groups}
 use Rattle.plan.proofs.Laws.{from, from-is}
 use Rattle.tokens.specs.Tokens.{split}
-use Rattle.uk_read.specs.Reading.{Taken, taken, sums, left}
+use Rattle.uk_read.specs.Reading.{taken, sums, left}
 use Rattle.uk_read.proofs.Falls.{sums-length}
 
 abbrev pub zeros : ℕ → List ℕ

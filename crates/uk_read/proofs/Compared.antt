@@ -99,9 +99,9 @@ sign-is true r e = lt-ltb 0 r (omega (arith, eqb-false r 0 e))
 sign-is false r e = le-ltb 0 r (omega (arith, eqb-true r 0 e))
 
 -- a plan that says these words stands where they are the text
-pub words-stand : (b : Bool) (s plan said : List ℕ) (n : ℕ) → phrase (says plan n) ≡ said → Decides b (phrase (pieces (take n plan)) ≡ s) → Decides b (said ≡ s)
+pub words-stand : (b : Bool) (s pool plan said : List ℕ) (n : ℕ) → phrase (says pool plan n) ≡ said → Decides b (phrase (pieces pool (take n plan)) ≡ s) → Decides b (said ≡ s)
 unfolding says
-words-stand b s plan said n e d = record { holds = λ t. sym e ∙ d .holds t; fails = λ t f. d .fails t (e ∙ f) }
+words-stand b s pool plan said n e d = record { holds = λ t. sym e ∙ d .holds t; fails = λ t f. d .fails t (e ∙ f) }
 
 -- of any bytes it is decided whether they are a sentence: what is made of them is the only value that they can have
 module _ (W : Words) (L : Lawful W) (s : List ℕ) where

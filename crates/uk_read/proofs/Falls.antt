@@ -1,7 +1,7 @@
 -- What is made of groups of falling order is their value.
 -- Assumes nothing.
-use Prim.Native.Nat.{ℕ, zero, suc, _+_, _-_, _*_, _^_, _<_, _≤_}
-use mathlib.Core.Path.{_≡_, refl, sym, _∙_, ap, subst}
+use Prim.Native.Nat.{ℕ, zero, suc, _+_, _*_, _^_, _<_, _≤_}
+use mathlib.Core.Path.{_≡_, refl, sym, _∙_, ap}
 use mathlib.Core.Bool.{Bool, true, false, cond}
 use mathlib.Core.List.{List, [], _∷_, _++_, append-assoc}
 use native.Mathlib.Nat.{pow-succ'}
@@ -13,8 +13,8 @@ use Rattle.base.specs.Join.{Word}
 use Rattle.figures.specs.Groups.{total}
 use Rattle.uk.specs.Rules.{Words, groupWords}
 use Rattle.uk.specs.Grammar.{Falling, end, skip, group}
-use Rattle.uk_read.specs.Reading.{mean, Taken, taken, sums, left}
-use Rattle.uk_read.proofs.Known.{Known, Lawful}
+use Rattle.uk_read.specs.Reading.{Taken, taken, sums, left}
+use Rattle.uk_read.proofs.Known.{Lawful}
 use Rattle.uk_read.proofs.Taking.{closed, Stops, stops, group-taken}
 
 pub sums-length : (k : ℕ) (ws : List Word) → length (sums k ws) ≡ k

@@ -1,16 +1,16 @@
 -- Every Ukrainian number word means one thing, whatever the case and the gender: one computed test over all words of all settings.
 -- Assumes nothing.
-use Prim.Native.Nat.{ℕ, zero, suc, _+_, _-_, _*_, _<_, _≤_}
-use mathlib.Core.Path.{_≡_, refl, sym, _∙_, ap}
+use Prim.Native.Nat.{ℕ, zero, suc, _+_, _-_, _*_, _<_}
+use mathlib.Core.Path.{_≡_, refl}
 use mathlib.Core.Bool.{Bool, true, false, cond, _&&_}
-use mathlib.Core.List.{List, [], _∷_, _++_}
+use mathlib.Core.List.{_++_}
 use native.Mathlib.Omega.{arith}
 use borrow.Author.Tests.{eqb-true}
-use lib.Dec.{eqb, ltb}
+use lib.Dec.{eqb}
 use Rattle.base.specs.Join.{Word}
 use Rattle.base.specs.Utf8.{utf8, form1, form2, form3}
 use Rattle.tables.proofs.Tests.{and-left, and-right, all, all-at}
-use Rattle.tokens.specs.Tokens.{keyFrom, key}
+use Rattle.tokens.specs.Tokens.{keyFrom}
 use Rattle.tokens.proofs.Words.{isWord}
 use Rattle.meanings.specs.Lookup.{lookup}
 use Rattle.uk_meanings.specs.Meanings.{placed, others, meaningOf}

@@ -2,7 +2,6 @@ pub mod Known
 pub mod Taking
 pub mod Falls
 pub mod Texts
-pub mod Zeros
 pub mod Below
 pub mod Numbers
 pub mod Sentences

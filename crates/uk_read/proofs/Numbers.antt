@@ -1,18 +1,18 @@
 -- A number's words are a sentence with its value, and a sentence's words are those of its number: under any words.
 -- Assumes nothing.
-use Prim.Native.Nat.{ℕ, zero, suc, _%_, _^_, _≤_, _<_}
+use Prim.Native.Nat.{ℕ, _^_, _<_}
 use native.Mathlib.Nat.{mod-eq-of-lt, one-le-pow}
 use native.Mathlib.Omega.{arith}
-use mathlib.Core.Path.{_≡_, refl, sym, ap, _∙_, subst}
+use mathlib.Core.Path.{_≡_, refl, ap, subst}
 use mathlib.Core.Bool.{Bool, true, false}
-use mathlib.Core.List.{List, [], _∷_, _++_}
+use mathlib.Core.List.{List, _∷_}
 use lib.Dec.{eqb}
 use borrow.Author.Tests.{eqb-true, eqb-false, ne-eqb}
 use Rattle.base.specs.Join.{Word}
 use Rattle.figures.specs.Groups.{groupsOf}
 use Rattle.figures.proofs.Laws.Groups.{groups-at}
 use Rattle.uk.specs.Rules.{Words}
-use Rattle.uk.specs.Cardinal.{groupsBelow, signWords, cardinalWords}
+use Rattle.uk.specs.Cardinal.{groupsBelow, cardinalWords}
 use Rattle.uk.specs.Grammar.{Falling, Sentence, zero-word, plain, negative}
 use Rattle.uk.proofs.Numbers.{number-falls}
 use Rattle.uk.proofs.Unique.{falling-below, one-phrase}

@@ -2,18 +2,17 @@
 -- Assumes nothing.
 use Prim.Native.Nat.{ℕ, zero, suc, _+_, _*_, _<_, _≤_}
 use mathlib.Core.Path.{_≡_, refl, sym, _∙_, ap}
-use mathlib.Core.Bool.{Bool, true, false, cond}
+use mathlib.Core.Bool.{Bool, false}
 use mathlib.Core.List.{List, [], _∷_, _++_, append-nil, append-assoc}
 use native.Mathlib.Omega.{arith}
 use borrow.Author.Tests.{eq-eqb, ne-eqb}
-use lib.Dec.{eqb}
 use Rattle.base.specs.Join.{Word}
 use Rattle.figures.specs.Groups.{total}
-use Rattle.tokens.proofs.Words.{isWord, Separable}
-use Rattle.uk.specs.Rules.{Words, opt, lowWords, numWords, nounWords, groupWords}
+use Rattle.tokens.proofs.Words.{Separable}
+use Rattle.uk.specs.Rules.{Words, opt, lowWords, numWords, nounWords}
 use Rattle.uk.specs.Grammar.{Falling, end, skip, group, Sentence, zero-word, plain, negative}
 use Rattle.uk_read.specs.Reading.{mean, taken, sums, signed, unsigned}
-use Rattle.uk_read.proofs.Known.{Known, Lawful}
+use Rattle.uk_read.proofs.Known.{Lawful}
 use Rattle.uk_read.proofs.Taking.{closed, closes}
 use Rattle.uk_read.proofs.Falls.{lone, reads-falling}
 

@@ -1,17 +1,15 @@
 -- Laws of taking a group: of words with known meanings.
 -- Assumes nothing.
-use Prim.Native.Nat.{ℕ, zero, suc, _+_, _-_, _*_, _%_, _<_, _≤_}
+use Prim.Native.Nat.{ℕ, zero, suc, _+_, _-_, _*_, _<_}
 use mathlib.Core.Path.{_≡_, refl, sym, _∙_, ap}
-use mathlib.Core.Bool.{Bool, true, false, cond}
 use mathlib.Core.List.{List, [], _∷_, _++_, append-assoc}
 use native.Mathlib.Nat.{mod-eq-of-lt}
 use native.Mathlib.Omega.{arith}
 use borrow.Author.Tests.{eq-eqb, ne-eqb, lt-ltb, le-ltb}
-use lib.Dec.{eqb, ltb}
 use Rattle.base.specs.Join.{Word}
-use Rattle.uk.specs.Rules.{Words, opt, lowWords, numWords, nounWords, groupWords}
+use Rattle.uk.specs.Rules.{Words, opt, lowWords, numWords, groupWords}
 use Rattle.uk_read.specs.Reading.{mean, Taken, taken}
-use Rattle.uk_read.proofs.Known.{Known, Lawful}
+use Rattle.uk_read.proofs.Known.{Lawful}
 
 abbrev pub closed : ℕ → ℕ → List Word → Taken
 closed v k ws = record { value = v; order = k; rest = ws }

@@ -1,19 +1,19 @@
 -- What is made of a text's words, as the code has it: place by place in the text.
 -- Assumes nothing.
-use Prim.Native.Nat.{ℕ, zero, suc, _+_, _-_, _%_, _<_, _≤_}
+use Prim.Native.Nat.{ℕ, _+_, _-_, _%_, _<_, _≤_}
 use mathlib.Core.Path.{_≡_, refl, sym, _∙_, ap}
-use mathlib.Core.Bool.{Bool, true, false, cond, not}
-use mathlib.Core.List.{List, [], _∷_, _++_}
+use mathlib.Core.Bool.{not}
+use mathlib.Core.List.{List, [], _∷_}
 use native.Mathlib.Omega.{arith}
 use borrow.Author.Tests.{eq-eqb, ne-eqb, lt-ltb, le-ltb}
-use lib.Dec.{eqb, ltb}
+use lib.Dec.{eqb}
 use lib.ListN.{length, drop, length-drop, drop-of-length-le}
 use lib.Seq.{drop-drop}
 use Rattle.base.specs.Join.{Word}
 use Rattle.plan.proofs.Laws.{from, from-is}
-use Rattle.tokens.specs.Tokens.{firstWord, afterWord, split, key}
+use Rattle.tokens.specs.Tokens.{firstWord, afterWord, split}
 use Rattle.tokens.proofs.Words.{split-first}
-use Rattle.uk_read.specs.Reading.{mean, Taken, taken, signed, unsigned}
+use Rattle.uk_read.specs.Reading.{mean, taken, signed, unsigned}
 use Rattle.uk_read.proofs.Taking.{closed}
 
 -- the word at a place, and the words behind it

@@ -8,24 +8,31 @@ ghost use mathlib.Core.List.{_++_};
 ghost use Prim.Native.Nat.{_+_, _≤_, _<_};
 ghost use lib.Dec.{eqb};
 ghost use lib.ListN.{length, take, drop, replicate};
-ghost use Rattle.figures.specs.Groups.{total, Groups};
+ghost use Rattle.figures.specs.Groups.{Groups};
 ghost use Rattle.figures.specs.Seen.{ReadOf};
 ghost use Rattle.tokens.specs.Tokens.{split};
 ghost use Rattle.uk.specs.Ukrainian.{ukrainian};
 ghost use Rattle.uk.specs.Grammar.{Says};
 ghost use Rattle.uk_read.specs.Reading.{taken, sums, left, signed, unsigned};
 
-// A group's value and order, and how many bytes it has.
+// What words mean: a number word at most the first of these, a scale noun its order and the second, the minus word the third.
+const MOST: u16 = 999;
+
+const SCALE: u16 = 1000;
+
+const MINUS: u16 = 2001;
+
+// A group's value and order, and where the next group starts.
 pub struct Group {
     pub value: u16,
     pub order: usize,
-    pub at: usize,
+    pub next: usize,
 }
 
 // The group at the front of a text: number words up to a scale noun, or up to a word that is none, or the end.
 fn first_group(s: &[u8]) -> Group
     ensures { λ r. ⌜ (r .value ≡ taken 0 (split (now (s .entry))) .value) × (r .order ≡ taken 0 (split (now (s .entry))) .order) × (r .value < 1000) ⌝ }
-    ensures { λ r. ⌜ (split (drop (r .at) (now (s .entry))) ≡ taken 0 (split (now (s .entry))) .rest) × (r .at ≤ length (now (s .entry))) ⌝ }
+    ensures { λ r. ⌜ (split (drop (r .next) (now (s .entry))) ≡ taken 0 (split (now (s .entry))) .rest) × (r .next ≤ length (now (s .entry))) ⌝ }
 {
     let mut value: u16 = 0;
     let mut at: usize = 0;
@@ -36,17 +43,13 @@ fn first_group(s: &[u8]) -> Group
             return Group {
                 value,
                 order: 0,
-                at,
+                next: at,
             };
         }
         let next = at + t.next;
-        if 999 < m {
-            let order = (m - 1000) as usize;
-            return Group {
-                value,
-                order,
-                at: next,
-            };
+        if MOST < m {
+            let order = (m - SCALE) as usize;
+            return Group { value, order, next };
         }
         value = (value + m) % 1000;
         at = next;
@@ -54,7 +57,7 @@ fn first_group(s: &[u8]) -> Group
     Group {
         value,
         order: 0,
-        at,
+        next: at,
     }
 }
 
@@ -69,7 +72,7 @@ pub fn groups(k: usize, s: &[u8], out: &mut [u16; 22]) -> usize
     let order = g.order;
     if order < k {
         out[order] = g.value;
-        let at = g.at;
+        let at = g.next;
         let n = groups(order, &s[at..], out);
         return at + n;
     }
@@ -84,24 +87,10 @@ fn minus(s: &[u8]) -> usize
         return 0;
     }
     let t = tokens::first(s);
-    if uk_meanings::meaning(t.key) == 2001 {
+    if uk_meanings::meaning(t.key) == MINUS {
         return t.next;
     }
     0
-}
-
-// Whether all groups are 0.
-fn is_zero(gs: &[u16]) -> bool
-    ensures { λ r. ⌜ r ≡ eqb (total (now (gs .entry))) 0 ⌝ }
-{
-    let mut i: usize = 0;
-    while i < gs.len() {
-        if gs[i] != 0 {
-            return false;
-        }
-        i += 1;
-    }
-    true
 }
 
 // Any bytes, under these settings: what they are by the grammar, with the groups in out.
@@ -111,9 +100,10 @@ pub fn read_cardinal(settings: Settings, s: &[u8], out: &mut [u16; 22]) -> Seen
 {
     let m = minus(s);
     groups(22, &s[m..], out);
-    let zero = is_zero(out);
+    let n = groups::top(out);
+    let zero = n == 0;
     let mut plan = [0u32; 112];
-    let n = uk_plan::plan_cardinal(settings, zero, 0 < m, out, &mut plan);
-    let stands = plan::stands(&plan[..n], s);
+    let k = uk_plan::plan_cardinal(settings, zero, 0 < m, n, out, &mut plan);
+    let stands = uk::stands(&plan[..k], s);
     figures::seen_of(stands, zero, 0 < m)
 }

@@ -1,12 +1,21 @@
 // A phrase walked word by word: a struct that holds the phrase and a place in it, as the source's `split_whitespace().peekable()` does.
 // The functions over the struct are proved by hand, so they are thin: each takes it apart and leaves the work to a function of a plain slice.
+// A walker is a value: moving on gives another one, which stands behind the word.
 use tokens::Token;
 ghost use mathlib.Core.Path.{_≡_};
+ghost use Prim.Native.Nat.{_+_, _<_, _^_};
 ghost use Rattle.walker.specs.Walk.{follows, wordAt, found};
+ghost use Rattle.walker.specs.Step.{stepOf};
 
 pub struct Walker<'a> {
     pub phrase: &'a [u8],
     pub at: usize,
+}
+
+// One step of a walk: the key of the word passed, and the walker behind it.
+pub struct Step<'a> {
+    pub key: u32,
+    pub rest: Walker<'a>,
 }
 
 // What a walker finds at its place: whether a word stands there, the word's key, and how many bytes it and the gap behind it have.
@@ -23,9 +32,9 @@ fn follows_at(s: &[u8], at: usize) -> bool
     at < s.len()
 }
 
-// The work of `next`. Past the end of the phrase the word is empty.
+// The work of `next`. Past the end of the phrase the word is empty. `next` adds up the two numbers, so their sum has to fit.
 fn word_at(s: &[u8], at: usize) -> Token
-    ensures { λ r. ⌜ r ≡ wordAt (now (s .entry)) at ⌝ }
+    ensures { λ r. ⌜ (r ≡ wordAt (now (s .entry)) at) × (at + r .next < 2 ^ 64) ⌝ }
 {
     if at < s.len() {
         return tokens::first(&s[at..]);
@@ -47,23 +56,30 @@ pub fn peek<'a>(w: Walker<'a>) -> bool
     follows_at(w.phrase, w.at)
 }
 
-// The word that follows.
-pub fn next<'a>(w: Walker<'a>) -> Token
-    ensures { λ r. ⌜ r ≡ wordAt (now (w .entry .phrase)) (w .entry .at) ⌝ }
+// The word that follows, and the walker behind it.
+pub fn next<'a>(w: Walker<'a>) -> Step<'a>
+    ensures { λ r. ⌜ r ≡ stepOf (w .entry) ⌝ }
 {
-    word_at(w.phrase, w.at)
+    let t = word_at(w.phrase, w.at);
+    Step {
+        key: t.key,
+        rest: Walker {
+            phrase: w.phrase,
+            at: w.at + t.next,
+        },
+    }
 }
 
-// One step of a walk, for callers that have no walker: their proofs stay with plain slices.
+// One step of a walk, with how far the walker went, for callers that have none: their proofs stay with plain slices.
 pub fn word(phrase: &[u8], at: usize) -> Found
     ensures { λ r. ⌜ r ≡ found (now (phrase .entry)) at ⌝ }
 {
     let w = start(phrase, at);
     let more = peek(w);
-    let t = next(w);
+    let n = next(w);
     Found {
         more,
-        key: t.key,
-        next: t.next,
+        key: n.key,
+        next: n.rest.at - at,
     }
 }

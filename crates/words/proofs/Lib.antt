@@ -1,1 +1,4 @@
-pub mod Banks
+pub mod Numbers
+pub mod Pieces
+pub mod Parts
+pub mod Tables

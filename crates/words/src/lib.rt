@@ -1,56 +1,165 @@
-// All words, stems and endings by one number: their lengths, their bytes, and whether a phrase begins with one.
+// Texts as parts of a pool, which a caller lends: their lengths, their bytes, and whether a phrase begins with one. Of a text of 8 to 16 bytes
+// two moves are made, which may overlap.
+mod moves; // moves.rt: two, four and eight bytes at a time
+
+use crate::moves::move2;
+use crate::moves::move4;
+use crate::moves::move8;
+use crate::moves::same2;
+use crate::moves::same4;
+use crate::moves::same8;
 ghost use mathlib.Core.Path.{_≡_};
 ghost use Prim.Native.Nat.{_≤_, _<_};
-ghost use lib.ListN.{length};
+ghost use lib.ListN.{length, drop};
 ghost use Rattle.base.specs.Buffer.{over};
-ghost use Rattle.words.specs.Text.{text};
-ghost use Rattle.base.specs.Front.{passed};
+ghost use Rattle.base.specs.Front.{begins as beginsWith, passed};
+ghost use Rattle.words.specs.Part.{part as partOf};
 
-// The length of the text with this number.
-pub fn len(id: u32) -> usize
-    ensures { λ r. ⌜ (r ≡ length (text id)) × (r < 40) ⌝ }
+// What is left of a pool from a place on.
+fn rest(pool: &[u8], at: usize) -> &[u8]
+    ensures { λ r. ⌜ now r ≡ drop at (now (pool .entry)) ⌝ }
 {
-    if id < 256 {
-        return bank_uk::len(id);
+    if at < pool.len() {
+        &pool[at..]
+    } else {
+        &pool[..0]
     }
-    if id < 512 {
-        return bank_fr::len(id - 256);
-    }
-    if id < 768 {
-        return bank_money::len(id - 512);
-    }
-    bank_ordinal::len(id - 768)
 }
 
-// Writes the text with this number over the front of out.
-pub fn put(id: u32, out: &mut [u8]) -> usize
-    requires { ⌜ length (text id) ≤ length (now out) ⌝ }
-    ensures { λ r. ⌜ (r ≡ length (text id)) × (now (out .exit) ≡ over (now (out .entry)) (text id)) ⌝ }
+// The text at a place of a pool.
+pub fn part(pool: &[u8], place: u32) -> &[u8]
+    ensures { λ r. ⌜ (now r ≡ partOf (now (pool .entry)) place) × (length (now r) < 40) ⌝ }
 {
-    if id < 256 {
-        return bank_uk::put(id, out);
+    let a = 2 * (place / 40) as usize;
+    let e = a + (place % 40) as usize;
+    if pool.len() < e {
+        return rest(pool, a);
     }
-    if id < 512 {
-        return bank_fr::put(id - 256, out);
-    }
-    if id < 768 {
-        return bank_money::put(id - 512, out);
-    }
-    bank_ordinal::put(id - 768, out)
+    &pool[a..e]
 }
 
-// One more than the length of the text with this number, where s begins with it; else 0.
-pub fn pass(id: u32, s: &[u8]) -> usize
-    ensures { λ r. ⌜ r ≡ passed (text id) (now (s .entry)) ⌝ }
+// The length of the text at a place.
+pub fn len(pool: &[u8], place: u32) -> usize
+    ensures { λ r. ⌜ (r ≡ length (partOf (now (pool .entry)) place)) × (r < 40) ⌝ }
 {
-    if id < 256 {
-        return bank_uk::pass(id, s);
+    let w = part(pool, place);
+    w.len()
+}
+
+// Writes a text of fewer than 8 bytes.
+fn put_short(w: &[u8], out: &mut [u8])
+    requires { ⌜ (length (now w) < 8) × (length (now w) ≤ length (now out)) ⌝ }
+    ensures { λ _. ⌜ now (out .exit) ≡ over (now (out .entry)) (now (w .entry)) ⌝ }
+{
+    let n = w.len();
+    if n < 2 {
+        if n == 1 {
+            out[0] = w[0];
+        }
+        return;
     }
-    if id < 512 {
-        return bank_fr::pass(id - 256, s);
+    if n < 4 {
+        move2(w, 0, out);
+        move2(w, n - 2, out);
+        return;
     }
-    if id < 768 {
-        return bank_money::pass(id - 512, s);
+    move4(w, 0, out);
+    move4(w, n - 4, out);
+}
+
+// Writes a text of 8 bytes or more.
+fn put_long(w: &[u8], out: &mut [u8])
+    requires { ⌜ (8 ≤ length (now w)) × (length (now w) ≤ length (now out)) ⌝ }
+    ensures { λ _. ⌜ now (out .exit) ≡ over (now (out .entry)) (now (w .entry)) ⌝ }
+{
+    let n = w.len();
+    let last = n - 8;
+    let mut i: usize = 0;
+    while i < last {
+        move8(w, i, out);
+        i += 8;
     }
-    bank_ordinal::pass(id - 768, s)
+    move8(w, last, out);
+}
+
+// Writes the text at a place over the front of out.
+pub fn put(pool: &[u8], place: u32, out: &mut [u8]) -> usize
+    requires { ⌜ length (partOf (now pool) place) ≤ length (now out) ⌝ }
+    ensures { λ r. ⌜ (r ≡ length (partOf (now (pool .entry)) place)) × (now (out .exit) ≡ over (now (out .entry)) (partOf (now (pool .entry)) place)) ⌝ }
+{
+    let w = part(pool, place);
+    let n = w.len();
+    if n < 8 {
+        put_short(w, out);
+        return n;
+    }
+    put_long(w, out);
+    n
+}
+
+// Whether s, which is no shorter, begins with a text of fewer than 8 bytes.
+fn same_short(w: &[u8], s: &[u8]) -> bool
+    requires { ⌜ (length (now w) < 8) × (length (now w) ≤ length (now s)) ⌝ }
+    ensures { λ r. ⌜ r ≡ beginsWith (now (w .entry)) (now (s .entry)) ⌝ }
+{
+    let n = w.len();
+    if n < 2 {
+        if n == 1 {
+            return s[0] == w[0];
+        }
+        return true;
+    }
+    if n < 4 {
+        if same2(w, 0, s) {
+            return same2(w, n - 2, s);
+        }
+        return false;
+    }
+    if same4(w, 0, s) {
+        return same4(w, n - 4, s);
+    }
+    false
+}
+
+// Whether s, which is no shorter, begins with a text of 8 bytes or more.
+fn same_long(w: &[u8], s: &[u8]) -> bool
+    requires { ⌜ (8 ≤ length (now w)) × (length (now w) ≤ length (now s)) ⌝ }
+    ensures { λ r. ⌜ r ≡ beginsWith (now (w .entry)) (now (s .entry)) ⌝ }
+{
+    let n = w.len();
+    let last = n - 8;
+    let mut i: usize = 0;
+    while i < last {
+        if same8(w, i, s) {
+            i += 8;
+        } else {
+            return false;
+        }
+    }
+    same8(w, last, s)
+}
+
+// Whether s begins with a text.
+pub fn begins(w: &[u8], s: &[u8]) -> bool
+    ensures { λ r. ⌜ r ≡ beginsWith (now (w .entry)) (now (s .entry)) ⌝ }
+{
+    let n = w.len();
+    if s.len() < n {
+        return false;
+    }
+    if n < 8 {
+        return same_short(w, s);
+    }
+    same_long(w, s)
+}
+
+// One more than the length of the text at a place, where s begins with it; else 0.
+pub fn pass(pool: &[u8], place: u32, s: &[u8]) -> usize
+    ensures { λ r. ⌜ r ≡ passed (partOf (now (pool .entry)) place) (now (s .entry)) ⌝ }
+{
+    let w = part(pool, place);
+    if begins(w, s) {
+        return w.len() + 1;
+    }
+    0
 }

@@ -9,6 +9,5 @@ pub teen-spec : {M : Type 1} → statement M
 teen-spec =
     tie.close
     (tie.spec
-    (λ c. search needs)
-    (λ c κs. search needs)
-    (λ c. rw (c .word .ensures) (teen-word (c .before .args .u) (c .before .pre))))
+    (λ c. search needs) (λ c. search needs)
+    (λ c. teen-word (c .args .u) (c .pre)))

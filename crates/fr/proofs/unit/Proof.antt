@@ -11,8 +11,6 @@ unit-spec =
     tie.close
     (tie.spec
     (λ c κs. search needs)
-    (λ c κs. search needs)
-    (λ c. let a = c .before .before .before .args in rw (c .word .ensures) (une-unit (a .f) (a .order) (a .u) (sym (c .before .before .is-une .ensures) ∙ c .before .if1 .taken)))
-    (λ c. search needs)
-    (λ c κs. search needs)
-    (λ c. let s = c .before .before .before in let a = s .args in rw (c .word2 .ensures) (plain-unit (a .f) (a .order) (a .u) (s .pre .0) (s .pre .1) (sym (c .before .before .is-une .ensures) ∙ c .before .if1 .left))))
+    (λ c. let a = c .before .before .args in une-unit (a .f) (a .order) (a .u) (sym (c .before .is-une .ensures) ∙ c .if1 .taken))
+    (λ c. search needs) (λ c. search needs)
+    (λ c. let s = c .before .before in let a = s .args in plain-unit (a .f) (a .order) (a .u) (s .pre .0) (s .pre .1) (sym (c .before .is-une .ensures) ∙ c .if1 .left)))

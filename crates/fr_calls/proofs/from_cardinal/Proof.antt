@@ -2,10 +2,10 @@
 -- Assumes nothing.
 use borrow.Author.Needs.{needs}
 use mathlib.Core.Path.{sym, _∙_}
-use Rattle.fr_calls.specs.Calls.{french, CardinalMeans}
+use Rattle.fr.specs.Settings.{french}
+use Rattle.fr_calls.specs.Calls.{CardinalMeans}
 use Rattle.fr_calls.proofs.Theorems.{ranges}
-use Rattle.base.proofs.Replies.{refusal}
-use Rattle.fr_calls.proofs.Answers.{reads-settled, reads-unsettled}
+use Rattle.fr_calls.proofs.Answers.{refuses, reads-settled, reads-unsettled}
 use Rattle.fr_calls.proofs.from_cardinal.Statement.{statement}
 use Rattle.fr_calls.proofs.from_cardinal.Tie as tie
 
@@ -15,8 +15,9 @@ from-cardinal-spec =
     (tie.spec
     (λ c κs. search needs)
     (λ c κs. let a = c .before .before .before .before .before .args in ranges (french (a .feminine) (a .reformed) (a .region)) (sym (c .before .before .in-range .ensures) ∙ c .before .if1 .taken))
+    (λ c κs. search needs)
     (λ c. search needs)
     (λ c. let a = c .before .before .before .before .before .before .before .before .args in let F = french (a .feminine) (a .reformed) (a .region) in
     reads-settled F (a .said .now) (a .said .now) (a .out .now) _ _ (CardinalMeans F) (sym (c .before .before .before .before .before .in-range .ensures) ∙ c .before .before .before .before .if1 .taken) (c .before .before .read-cardinal .ensures))
-    (λ c. let a = c .before .before .before .before .args in let F = french (a .feminine) (a .reformed) (a .region) in
-    reads-unsettled F (a .said .now) (a .said .now) (a .out .now) _ _ (CardinalMeans F) (sym (c .before .in-range .ensures) ∙ c .if1 .left) (refusal (a .out .now) 1)))
+    (λ c. let a = c .before .before .before .before .before .args in let F = french (a .feminine) (a .reformed) (a .region) in
+    reads-unsettled F (a .said .now) (a .said .now) (a .out .now) _ _ (CardinalMeans F) (sym (c .before .before .in-range .ensures) ∙ c .before .if1 .left) (refuses _ (a .out .now) 1 (c .refused .ensures))))

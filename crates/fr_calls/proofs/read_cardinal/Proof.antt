@@ -1,8 +1,8 @@
 -- `fr_calls::read_cardinal` meets its contract: the number text of a sentence, or 6.
 -- Assumes nothing.
-use mathlib.Core.Path.{sym}
-use native.Mathlib.Omega.{arith}
 use borrow.Author.Needs.{needs}
+use native.Mathlib.Omega.{arith}
+use mathlib.Core.Path.{sym}
 use Rattle.fr.specs.Grammar.{Says}
 use Rattle.numerals.proofs.Readings.{read-right}
 use Rattle.fr_calls.proofs.read_cardinal.Statement.{statement}

@@ -3,8 +3,7 @@
 use borrow.Author.Needs.{needs}
 use native.Mathlib.Omega.{arith}
 use mathlib.Core.Path.{sym}
-use Rattle.base.proofs.Replies.{refusal}
-use Rattle.fr_calls.proofs.Answers.{ordinal-none, ordinal-some}
+use Rattle.fr_calls.proofs.Answers.{refuses, ordinal-none, ordinal-some}
 use Rattle.fr_calls.proofs.read_ordinal.Statement.{statement}
 use Rattle.fr_calls.proofs.read_ordinal.Tie as tie
 
@@ -15,6 +14,7 @@ read-ordinal-spec =
     (λ c κs. search needs)
     (λ c. sym (c .before .before .read-ordinal .ensures .1 .0))
     (λ c κs. let p = c .before .before .before .read-ordinal in (p .ensures .1 .1, (omega (arith, p .ensures .1 .0), omega (arith, p .ensures .1 .0))))
+    (λ c κs. search needs)
     (λ c. search needs)
     (λ c. let a = c .before .before .before .before .before .before .before .before .before .before .args in let p = c .before .before .before .before .before .before .read-ordinal in ordinal-some (a .f) (a .said .now) (p .last .1 .1 .0) (a .out .now) _ _ _ (p .ensures .0) (c .before .before .before .before .before .if1 .taken) (c .before .before .put-number .ensures))
-    (λ c. let a = c .before .before .before .before .before .args in let p = c .before .read-ordinal in ordinal-none (a .f) (a .said .now) (p .last .1 .1 .0) (a .out .now) (a .out .now) _ _ (p .ensures .0) (c .if1 .left) (refusal (a .out .now) 6)))
+    (λ c. let a = c .before .before .before .before .before .before .args in let p = c .before .before .read-ordinal in ordinal-none (a .f) (a .said .now) (p .last .1 .1 .0) (a .out .now) (a .out .now) _ _ (p .ensures .0) (c .before .if1 .left) (refuses _ (a .out .now) 6 (c .refused .ensures))))

@@ -7,8 +7,8 @@ use borrow.Fn.Kinds.{In}
 use borrow.Fn.PlainCycle.{Measures, is, falls, and}
 use Rattle.fr.specs.Rules.{joiner}
 use Rattle.fr.specs.Cardinal.{groupsBelow}
-use Rattle.fr_plan.specs.Settings.{french}
-use Rattle.fr_plan.proofs.Tells.{quiet, tell, retell}
+use Rattle.fr.specs.Settings.{french}
+use Rattle.fr_plan.proofs.Appends.{nothing, after, likewise}
 use Rattle.fr_plan.proofs.Cases.{groups-more}
 use Rattle.fr_plan.proofs.groups.Reads as groups-reads
 use Rattle.fr_plan.proofs.groups.Kinds as groups-kinds
@@ -18,7 +18,7 @@ use Rattle.fr_plan.proofs.+groups.{statement}
 use Rattle.fr_plan.proofs.+groups.Tie.{close}
 
 abbrev μ : Measures 2 groups-kinds.ps ℕ
-μ κs a = a .1 .1 .1 .1 .0
+μ κs a = a .1 .1 .1 .0
 
 abbrev at : ℕ → In 2 groups-kinds.ps
 at t = and 2 groups-kinds.ps (is 2 groups-kinds.ps μ t) groups-reads.Pre
@@ -31,17 +31,17 @@ unfolding groupsBelow
 +groups-spec =
     close μ λ t.
     groups-lts.spec (group-reads.Asked, group-reads.Learnt, below t, groups-reads.Post) (at t) groups-reads.Post
-    (λ c. rw (c .if1 .taken) (quiet _ _ _))
+    (λ c. rw (c .if1 .taken) (nothing _ _ _))
     (λ c. search needs)
     (λ c. search needs)
     (λ c. search needs)
-    (λ c κs. let s = c .before .before .before in (s .pre .1 .0, s .pre .1 .1, omega arith, omega (arith, s .pre .1 .3)))
+    (λ c κs. let s = c .before .before .before in (s .pre .1 .0, omega arith, omega (arith, s .pre .1 .2)))
     (λ c κs.
     let s = c .before .before .before .before .before in
-    (omega (arith, s .pre .0), (s .pre .1 .0, s .pre .1 .1, omega arith, omega (arith, s .pre .1 .3, c .before .group .ensures .near, c .before .group .ensures .same))))
+    (omega (arith, s .pre .0), (s .pre .1 .0, omega arith, omega (arith, s .pre .1 .2, c .before .group .ensures .near, c .before .group .ensures .same))))
     (λ c.
     let s = c .before .before .before .before .before .before in
     let a = s .args in
     let f = french (a .feminine) (a .reformed) (a .region) in
     let z = c .before .before .before .before .before .if1 .left in
-    retell (5 * a .n) (tell (5 * a .n) (c .before .before .group .ensures) (c .groups .ensures) (omega (arith, z))) (omega arith) (groups-more f (joiner f) (a .n) _ z))
+    likewise (5 * a .n) (after (5 * a .n) (c .before .before .group .ensures) (c .groups .ensures) (omega (arith, z))) (omega arith) (groups-more f (joiner f) (a .n) _ z))

@@ -1,7 +1,7 @@
 -- `fr_plan::say` meets its contract.
 -- Assumes nothing.
 use borrow.Author.Needs.{needs}
-use Rattle.fr_plan.proofs.Tells.{pushed}
+use Rattle.fr_plan.proofs.Appends.{pushed}
 use Rattle.fr_plan.proofs.say.Statement.{statement}
 use Rattle.fr_plan.proofs.say.Tie as tie
 

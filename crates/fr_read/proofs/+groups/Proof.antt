@@ -9,7 +9,7 @@ use Rattle.fr_read.proofs.Below.{reads-none, set-below, reads-below}
 use Rattle.fr_read.proofs.groups.Reads as groups-reads
 use Rattle.fr_read.proofs.groups.Kinds as groups-kinds
 use Rattle.fr_read.proofs.+groups.Lts-groups as groups-lts
-use Rattle.fr_read.proofs.group.Reads as group-reads
+use Rattle.fr_read.proofs.first_group.Reads as first-group-reads
 use Rattle.fr_read.proofs.+groups.{statement}
 use Rattle.fr_read.proofs.+groups.Tie.{close}
 
@@ -25,12 +25,12 @@ below t = and 2 groups-kinds.ps (falls 2 groups-kinds.ps _<_ μ t) groups-reads.
 pub +groups-spec : {M : Type 1} → statement M
 +groups-spec =
     close μ λ t.
-    groups-lts.spec (group-reads.Asked, group-reads.Learnt, below t, groups-reads.Post) (at t) groups-reads.Post
+    groups-lts.spec (first-group-reads.Asked, first-group-reads.Learnt, below t, groups-reads.Post) (at t) groups-reads.Post
     (λ c κs. search needs)
     (λ c. omega (arith, c .before .before .before .pre .1 .0))
     (λ c. omega (arith, c .before .before .before .pre .1 .0))
-    (λ c. omega (arith, c .before .group .ensures .1))
-    (λ c. c .before .group .ensures .1)
+    (λ c. omega (arith, c .before .first-group .ensures .1))
+    (λ c. c .before .first-group .ensures .1)
     (λ c. search needs)
     (λ c κs.
     let s = c .before .before .before .before .before in
@@ -38,9 +38,9 @@ pub +groups-spec : {M : Type 1} → statement M
     (omega (arith, s .pre .0, o), (omega (arith, s .pre .1 .0, o), set-below (s .args .out .now) (s .args .k) (s .pre .1 .1) _ _ o)))
     (λ c.
     let s = c .before .before .before .before .before .before in
-    let g = c .before .before .before .before .group in
+    let g = c .before .before .before .before .first-group in
     reads-below (s .args .out .now) (s .args .k) (s .pre .1 .1) (g .result .order) (g .result .value) (c .before .before .before .if1 .taken) (s .args .s .now) _ (g .result .next) (g .ensures .0) (c .groups .ensures))
     (λ c.
     let s = c .before .before .before in
-    let g = c .before .group in
+    let g = c .before .first-group in
     reads-none (s .args .out .now) (s .args .k) (s .pre .1 .1) _ _ (g .ensures .0) (c .if1 .left))

@@ -10,7 +10,7 @@ use Rattle.fr_read.proofs.Cases.{plan-stands}
 use Rattle.fr_read.proofs.is_cardinal.Statement.{statement}
 use Rattle.fr_read.proofs.is_cardinal.Tie as tie
 
-within : (c : tie.After-plan-cardinal) → c .plan-cardinal .result ≤ length (c .plan-cardinal .last .1 .1 .1 .1 .0)
+within : (c : tie.After-plan-cardinal) → c .plan-cardinal .result ≤ length (c .plan-cardinal .last .1 .1 .1 .1 .1 .0)
 within c = omega (arith, c .plan-cardinal .ensures .0, c .plan-cardinal .ensures .2)
 
 pub is-cardinal-spec : {M : Type 1} → statement M

@@ -10,7 +10,7 @@ use Rattle.fr_read.proofs.Cases.{plan-stands}
 use Rattle.fr_read.proofs.is_ordinal.Statement.{statement}
 use Rattle.fr_read.proofs.is_ordinal.Tie as tie
 
-within : (c : tie.After-plan-ordinal) → c .plan-ordinal .result ≤ length (c .plan-ordinal .last .1 .1 .0)
+within : (c : tie.After-plan-ordinal) → c .plan-ordinal .result ≤ length (c .plan-ordinal .last .1 .1 .1 .1 .0)
 within c = omega (arith, c .plan-ordinal .ensures .0, c .plan-ordinal .ensures .2)
 
 pub is-ordinal-spec : {M : Type 1} → statement M
@@ -19,6 +19,9 @@ is-ordinal-spec =
     (tie.spec
     (λ c κs. search needs)
     (λ c. search needs)
-    (λ c. sym (length-take-le _ _ (within (c .before))))
     (λ c κs. search needs)
-    (λ c. plan-stands _ _ _ _ _ (c .stands .ensures) (c .before .before .plan-ordinal .ensures .1)))
+    (λ c. search needs)
+    (λ c. search needs)
+    (λ c. sym (length-take-le _ _ (within (c .before .before))))
+    (λ c κs. search needs)
+    (λ c. plan-stands _ _ _ _ _ (rw (c .before .before .before .before .before .before .texts .ensures) at (c .stands .ensures)) (c .before .before .before .plan-ordinal .ensures .1)))

@@ -1,8 +1,9 @@
 -- `fr_read::read_cardinal` meets its contract.
 -- Assumes nothing.
 use borrow.Author.Needs.{needs}
+use native.Mathlib.Omega.{arith}
 use mathlib.Core.Path.{_≡_}
-use lib.Dec.{lit<}
+use Rattle.groups.proofs.Highest.{top-zero}
 use Rattle.fr_read.specs.Reading.{meanings, unsigned, guessed}
 use Rattle.fr_read.proofs.Promises.{are-groups, behind, read}
 use Rattle.fr_read.proofs.read_cardinal.Statement.{statement}
@@ -21,7 +22,8 @@ read-cardinal-spec =
     (λ c. search needs)
     (λ c. search needs)
     (λ c κs. search needs)
-    (λ c κs. (lit< tt, are-groups _ _ (groups (c .before))))
     (λ c κs. search needs)
+    (λ c κs. let t = c .before .top .ensures .0 in (c .before .before .before .before .before .before .before .before .before .pre .0, t .zeros, omega (arith, t .within, are-groups _ _ (groups (c .before .before .before .before)) .0)))
     (λ c κs. search needs)
-    (λ c. let s = c .before .before .before .before .before .before .before .before .before .before in rw (c .seen-of .ensures) (read (s .args .f) (s .pre .0) (s .args .s .now) _ (groups (c .before .before .before .before .before)) _ _ _ (c .before .before .before .is .ensures) (c .before .before .before .before .before .before .before .before .sign .ensures .0) (c .before .is-cardinal .ensures))))
+    (λ c. let s = c .before .before .before .before .before .before .before .before .before .before .before in let t = c .before .before .before .top .ensures in
+    rw (c .seen-of .ensures) (read (s .args .f) (s .pre .0) (s .args .s .now) _ (groups (c .before .before .before .before .before .before)) _ _ _ (top-zero _ _ (t .0) (t .1)) (c .before .before .before .before .before .before .before .before .before .sign .ensures .0) (c .before .is-cardinal .ensures))))

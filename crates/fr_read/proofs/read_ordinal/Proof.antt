@@ -10,5 +10,6 @@ read-ordinal-spec =
     tie.close
     (tie.spec
     (λ c κs. search needs)
-    (λ c κs. (c .before .before .before .before .pre .0, are-groups _ _ (c .before .guess .ensures)))
-    (λ c. let s = c .before .before .before .before .before in read-nth (s .args .f) (s .pre .0) (s .args .s .now) _ (c .before .before .guess .ensures) _ (c .is-ordinal .ensures)))
+    (λ c κs. search needs)
+    (λ c κs. (c .before .before .before .before .before .before .before .pre .0, are-groups _ _ (c .before .before .before .before .guess .ensures), c .before .top .ensures .0))
+    (λ c. let s = c .before .before .before .before .before .before .before .before in read-nth (s .args .f) (s .pre .0) (s .args .s .now) _ (c .before .before .before .before .before .guess .ensures) _ (c .is-ordinal .ensures)))

@@ -9,7 +9,15 @@ use Rattle.numerals.proofs.put_seen.Tie as tie
 pub put-seen-spec : {M : Type 1} → statement M
 put-seen-spec =
     tie.close
-    (tie.spec (λ c. search needs) (λ c. search needs) (λ c κs. search needs) (λ c. search needs) (λ c κs. search needs) (λ c. search needs) (λ c. search needs)
+    (tie.spec
+    (λ c. search needs)
+    (λ c κs. search needs)
+    (λ c. search needs)
+    (λ c κs. search needs)
+    (λ c. search needs)
+    (λ c κs. search needs)
+    (λ c. search needs)
+    (λ c. search needs)
     (λ c. told Plain _ _ _ _ (c .before .before .before .before .enum-told2 .given .1) (c .before .before .put-number .ensures))
     (λ c. search needs)
     (λ c. told Negative _ _ _ _ (c .before .before .before .before .enum-told3 .given .1) (c .before .before .put-number2 .ensures)))

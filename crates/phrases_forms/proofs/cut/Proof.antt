@@ -1,6 +1,5 @@
 -- `phrases_forms::cut` meets its contract.
 -- Assumes nothing.
-use mathlib.Core.Path.{_≡_}
 use native.Mathlib.Omega.{arith}
 use borrow.Author.Needs.{needs}
 use Rattle.phrases_forms.proofs.Words.{first-at, rest-at, rest-none}

@@ -6,7 +6,7 @@ use Rattle.plan.proofs.push.Statement.{statement}
 use Rattle.plan.proofs.push.Tie as tie
 
 returns : tie.Need-returns
-returns c = pushed _ _ _ _ (c .pre) (c .fits .separator .fits)
+returns c pool = pushed pool _ _ _ _ (c .pre) (c .fits .separator .fits)
 
 pub push-spec : {M : Type 1} → statement M
 push-spec = tie.close (tie.spec (λ c. search needs) (λ c. search needs) (λ c. search needs) (λ c. search needs) (λ c. search needs) (λ c. search needs) returns)

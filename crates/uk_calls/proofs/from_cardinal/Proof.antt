@@ -1,9 +1,8 @@
 -- `uk_calls::from_cardinal` meets its contract.
 -- Assumes nothing.
-use mathlib.Core.Path.{_≡_, sym, _∙_}
+use mathlib.Core.Path.{refl, sym, _∙_}
 use borrow.Author.Needs.{needs}
 use Rattle.uk.proofs.Ranges.{ranges}
-use Rattle.base.proofs.Replies.{refusal}
 use Rattle.uk_calls.proofs.from_cardinal.Statement.{statement}
 use Rattle.uk_calls.proofs.from_cardinal.Tie as tie
 
@@ -22,5 +21,5 @@ returns c =
 pub from-cardinal-spec : {M : Type 1} → statement M
 from-cardinal-spec =
     tie.close
-    (tie.spec (λ c κs. search needs) (λ c κs. search needs) read-requires (λ c. search needs) returns
-    (λ c. rw (sym (c .before .in-range .ensures) ∙ c .if1 .left) (refusal (c .before .before .before .before .args .out .now) 1)))
+    (tie.spec (λ c κs. search needs) (λ c κs. search needs) read-requires (λ c κs. search needs) (λ c. search needs) returns
+    (λ c. rw (sym (c .before .before .in-range .ensures) ∙ c .before .if1 .left) (record { number = c .refused .ensures .0; length = c .refused .ensures .1; buffer = refl })))

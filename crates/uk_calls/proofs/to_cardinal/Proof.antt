@@ -5,7 +5,7 @@ use native.Mathlib.Omega.{arith}
 use borrow.Author.Needs.{needs}
 use Rattle.uk_calls.specs.Cardinals.{refusedCardinal}
 use Rattle.uk_calls.proofs.Admitting.{to-admitted}
-use Rattle.base.proofs.Replies.{refusal-some}
+use Rattle.base.proofs.Replies.{refused-as}
 use Rattle.uk_calls.proofs.to_cardinal.Statement.{statement}
 use Rattle.uk_calls.proofs.to_cardinal.Tie as tie
 
@@ -26,5 +26,5 @@ returns c =
 pub to-cardinal-spec : {M : Type 1} → statement M
 to-cardinal-spec =
     tie.close
-    (tie.spec (λ c κs. search needs) (λ c κs. search needs) spell-requires (λ c. search needs) returns
-    (λ c. (refusal-some (c .before .before .before .before .args .out .now) _ _ _ (c .before .refuse .ensures) (c .if1 .left), omega arith)))
+    (tie.spec (λ c κs. search needs) (λ c κs. search needs) spell-requires (λ c κs. search needs) (λ c. search needs) returns
+    (λ c. (refused-as _ (c .before .before .before .before .before .args .out .now) _ _ _ (c .refused .ensures) (c .before .before .refuse .ensures) (c .before .if1 .left), omega (arith, c .refused .ensures .1))))

@@ -8,4 +8,4 @@ use Rattle.uk_money.proofs.ending.Tie as tie
 pub ending-spec : {M : Type 1} → statement M
 ending-spec =
     tie.close
-    (tie.spec (λ c. search needs) (λ c. search needs) (λ c. search needs) (λ c. ending-at _ _ (c .before .pre .0) (c .before .pre .1)))
+    (tie.spec (λ c. search needs) (λ c. search needs) (λ c. search needs) (λ c. search needs) (λ c. ending-at _ _ (c .before .pre .0) (c .before .pre .1)))

@@ -1,41 +1,40 @@
 -- `uk_money_calls::read` meets its contract: the money text of an amount, or 6.
 -- Assumes nothing.
-use mathlib.Core.Path.{sym, subst}
+use mathlib.Core.Path.{refl, sym, subst}
 use native.Mathlib.Omega.{arith}
 use borrow.Author.Needs.{needs}
 use Rattle.uk_money.specs.Currencies.{currencyAt}
 use Rattle.uk_money_read.specs.Promise.{ReadMoney}
-use Rattle.uk_money_read.specs.declared.Seen.{Seen}
-use Rattle.base.proofs.Replies.{refusal}
+use Rattle.uk_money_read.specs.declared.Reading.{Reading}
 use Rattle.uk_money_calls.proofs.Entries.{seen-none, seen-some}
 use Rattle.uk_money_calls.proofs.read.Statement.{statement}
 use Rattle.uk_money_calls.proofs.read.Tie as tie
 
 returns : tie.Need-returns
 returns c =
-    let a = c .before .before .before .before .before .before .args in
-    let p = c .before .before .read-money in
+    let a = c .before .before .before .before .before .before .before .args in
+    let p = c .before .before .before .read-money in
     seen-none (currencyAt (a .currency)) (a .settings .case) (a .said .now) (p .last .1 .1 .1 .0) (a .out .now) (a .out .now) _
-    (subst (λ (x : Seen). ReadMoney (currencyAt (a .currency)) (a .settings .case) (a .said .now) x (p .last .1 .1 .1 .0)) (c .enum-told .given .1) (p .ensures))
-    (refusal (a .out .now) 6)
+    (subst (λ (x : Reading). ReadMoney (currencyAt (a .currency)) (a .settings .case) (a .said .now) x (p .last .1 .1 .1 .0)) (c .before .enum-told .given .1) (p .ensures))
+    (record { number = c .refused .ensures .0; length = c .refused .ensures .1; buffer = refl })
 
 returns-2 : tie.Need-returns-2
 returns-2 c =
     let a = c .before .before .before .before .before .before .before .before .before .before .before .before .args in
     let p = c .before .before .before .before .before .before .before .before .read-money in
-    let h = c .before .before .before .before .before .before .seen .given in
+    let h = c .before .before .before .before .before .before .reading .given in
     seen-some (currencyAt (a .currency)) (a .settings .case) (a .said .now) (p .last .1 .1 .1 .0) (a .out .now) _ (c .before .before .put-money-text .result) (h .0 .0)
-    (subst (λ (x : Seen). ReadMoney (currencyAt (a .currency)) (a .settings .case) (a .said .now) x (p .last .1 .1 .1 .0)) (h .1) (p .ensures))
+    (subst (λ (x : Reading). ReadMoney (currencyAt (a .currency)) (a .settings .case) (a .said .now) x (p .last .1 .1 .1 .0)) (h .1) (p .ensures))
     (c .before .before .put-money-text .ensures)
 
 put-money-text-requires : tie.Need-put-money-text-requires
 put-money-text-requires c κs =
     let p = c .before .before .before .before .before .read-money .ensures in
-    let h = c .before .before .before .seen .given in
+    let h = c .before .before .before .reading .given in
     (p .groups, ((omega (arith, p .size), omega (arith, p .size)), p .hundredths (h .0 .0) (h .1)))
 
 pub read-spec : {M : Type 1} → statement M
 read-spec =
     tie.close
-    (tie.spec (λ c κs. search needs) (λ c. search needs) (λ c. search needs) (λ c. sym (c .before .before .before .before .read-money .ensures .size)) put-money-text-requires
+    (tie.spec (λ c κs. search needs) (λ c. search needs) (λ c κs. search needs) (λ c. search needs) (λ c. sym (c .before .before .before .before .read-money .ensures .size)) put-money-text-requires
     returns (λ c. search needs) returns-2)

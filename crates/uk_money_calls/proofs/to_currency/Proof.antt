@@ -1,14 +1,11 @@
 -- `uk_money_calls::to_currency` meets its contract.
 -- Assumes nothing.
-use Prim.Native.Nat.{ℕ, _<_}
-use mathlib.Core.Path.{_≡_, sym, ap, _∙_, subst}
-use mathlib.Core.Bool.{true, false}
+use mathlib.Core.Path.{sym, ap, _∙_}
 use native.Mathlib.Omega.{arith}
 use borrow.Author.Needs.{needs}
-use Rattle.base.specs.Answer.{replied, Answers}
+use Rattle.base.proofs.Replies.{refused-as}
 use Rattle.figures.specs.Refusals.{refusalOf}
 use Rattle.uk.proofs.Ranges.{ranges}
-use Rattle.base.proofs.Replies.{refusal, refusal-some}
 use Rattle.uk_money_calls.proofs.Entries.{settings-first, no-code, text-next}
 use Rattle.uk_money_calls.proofs.to_currency.Statement.{statement}
 use Rattle.uk_money_calls.proofs.to_currency.Tie as tie
@@ -30,19 +27,26 @@ returns c =
 
 returns-2 : tie.Need-returns-2
 returns-2 c =
-    let a = c .before .before .before .before .before .before .before .before .before .before .args in
-    let s = sym (c .before .before .before .before .before .before .in-range .ensures) ∙ c .before .before .before .before .before .if1 .taken in
-    let k = c .before .before .before .before .code-of .ensures in
-    let n = c .before .number-of .ensures ∙ ap refusalOf (c .before .before .judge-money .ensures) ∙ sym (text-next (a .gender) (a .number) (a .case) (a .code .now) s (rw k at (c .before .before .before .if2 .taken)) (a .text .now)) in
-    (refusal-some (a .out .now) _ _ _ n (c .if3 .left), omega arith)
+    let a = c .before .before .before .before .before .before .before .before .before .before .before .args in
+    let s = sym (c .before .before .before .before .before .before .before .in-range .ensures) ∙ c .before .before .before .before .before .before .if1 .taken in
+    let k = c .before .before .before .before .before .code-of .ensures in
+    let n = c .before .before .number-of .ensures ∙ ap refusalOf (c .before .before .before .judge-money .ensures) ∙ sym (text-next (a .gender) (a .number) (a .case) (a .code .now) s (rw k at (c .before .before .before .before .if2 .taken)) (a .text .now)) in
+    (refused-as _ (a .out .now) _ _ _ (c .refused .ensures) n (c .before .if3 .left), omega (arith, c .refused .ensures .1))
+
+returns-3 : tie.Need-returns-3
+returns-3 c =
+    let a = c .before .before .before .before .before .before .before .before .args in
+    let n = no-code (a .gender) (a .number) (a .case) (a .code .now) (sym (c .before .before .before .before .in-range .ensures) ∙ c .before .before .before .if1 .taken) (rw (c .before .before .code-of .ensures) at (c .before .if2 .left)) (a .text .now) in
+    (refused-as _ (a .out .now) _ _ _ (c .refused2 .ensures) (sym n) (λ z. omega arith), omega (arith, c .refused2 .ensures .1))
+
+returns-4 : tie.Need-returns-4
+returns-4 c =
+    let a = c .before .before .before .before .before .before .args in
+    let n = settings-first (a .gender) (a .number) (a .case) (a .code .now) (sym (c .before .before .in-range .ensures) ∙ c .before .if1 .left) (a .text .now) in
+    (refused-as _ (a .out .now) _ _ _ (c .refused3 .ensures) (sym n) (λ z. omega arith), omega (arith, c .refused3 .ensures .1))
 
 pub to-currency-spec : {M : Type 1} → statement M
 to-currency-spec =
     tie.close
-    (tie.spec (λ c κs. search needs) (λ c κs. search needs) (λ c κs. search needs) (λ c κs. search needs) (λ c κs. search needs) spell-requires (λ c. search needs) returns returns-2
-    (λ c.
-    let a = c .before .before .before .before .before .before .before .args in
-    (rw (no-code (a .gender) (a .number) (a .case) (a .code .now) (sym (c .before .before .before .in-range .ensures) ∙ c .before .before .if1 .taken) (rw (c .before .code-of .ensures) at (c .if2 .left)) (a .text .now)) (refusal (a .out .now) 2), omega arith))
-    (λ c.
-    let a = c .before .before .before .before .before .args in
-    (rw (settings-first (a .gender) (a .number) (a .case) (a .code .now) (sym (c .before .in-range .ensures) ∙ c .if1 .left) (a .text .now)) (refusal (a .out .now) 1), omega arith)))
+    (tie.spec (λ c κs. search needs) (λ c κs. search needs) (λ c κs. search needs) (λ c κs. search needs) (λ c κs. search needs) spell-requires (λ c. search needs) returns
+    (λ c κs. search needs) returns-2 (λ c κs. search needs) returns-3 (λ c κs. search needs) returns-4)

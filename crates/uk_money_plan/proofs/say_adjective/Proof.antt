@@ -1,18 +1,17 @@
 -- `uk_money_plan::say_adjective` meets its contract.
 -- Assumes nothing.
-use mathlib.Core.Path.{refl}
-use native.Mathlib.Omega.{arith}
 use borrow.Author.Needs.{needs}
 use Rattle.plan.proofs.Tells.{quiet, retell}
 use Rattle.uk_money_plan.proofs.Forms.{no-adjective, adjective-is}
+use native.Mathlib.Omega.{arith}
 use Rattle.uk_money_plan.proofs.say_adjective.Statement.{statement}
 use Rattle.uk_money_plan.proofs.say_adjective.Tie as tie
 
 pub say-adjective-spec : {M : Type 1} → statement M
 say-adjective-spec =
     tie.close
-    (tie.spec (λ c. retell 2 (quiet 2 _ _) (omega arith) (no-adjective _ _ (c .if1 .taken)))
-    (λ c κs. search needs) (λ c κs. search needs) (λ c. search needs)
-    (λ c.
-    let s = c .before .before .before .before .before .before .before in
-    retell 2 (c .before .before .say-form .ensures) (omega arith) (adjective-is (s .args .place) (s .args .stem) (c .before .before .before .before .before .if1 .left) (c .before .before .before .before .ending .result) (c .before .before .before .before .ending .ensures))))
+    (tie.spec
+    (λ c. retell 2 (quiet 2 _ _) (omega arith) (no-adjective _ _ _ (c .if1 .taken)))
+    (λ c κs. search needs) (λ c κs. search needs)
+    (λ c. search needs)
+    (λ c. retell 2 (c .before .before .say-form .ensures) (omega arith) (adjective-is _ _ _ _ (c .before .before .before .before .before .if1 .left) (c .before .before .before .before .ending .ensures))))

@@ -1,6 +1,6 @@
 -- `uk_money_read::nouns` meets its contract: at the head of the loop the words before `at` are no number words.
 -- Assumes nothing.
-use Prim.Native.Nat.{ℕ, _+_, _-_, _<_, _≤_}
+use Prim.Native.Nat.{_+_, _-_, _<_, _≤_}
 use mathlib.Core.List.{_∷_}
 use mathlib.Core.Path.{_≡_, refl, sym, ap, _∙_}
 use native.Mathlib.Omega.{arith}
@@ -11,7 +11,7 @@ use Rattle.tokens.specs.Tokens.{firstWord, split}
 use Rattle.uk_meanings.specs.Meanings.{meaningOf}
 use Rattle.uk_read.specs.Reading.{mean}
 use Rattle.uk_read.proofs.Texts.{word-at}
-use Rattle.uk_money_read.specs.Reading.{behind}
+use Rattle.uk_money_read.specs.Behind.{behind}
 use Rattle.uk_money_read.proofs.Behind.{stays, passes, ends}
 use Rattle.uk_money_read.proofs.nouns.Statement.{statement}
 use Rattle.uk_money_read.proofs.nouns.Tie as tie

@@ -3,14 +3,16 @@
 use Prim.Native.Nat.{ℕ}
 use mathlib.Core.Path.{_≡_, refl, sym, ap, _∙_, subst}
 use mathlib.Core.List.{List, _++_, append-nil}
+use native.Mathlib.Omega.{arith}
 use borrow.Author.Needs.{needs}
 use lib.ListN.{length, drop, getD}
 use Rattle.figures.specs.Groups.{Groups}
+use Rattle.figures.proofs.Laws.Groups.{group-lt}
 use Rattle.tokens.specs.Tokens.{split}
 use Rattle.uk_read.specs.Reading.{sums, left}
 use Rattle.uk_read.proofs.Falls.{sums-length}
 use Rattle.uk_read.proofs.Below.{zeros, zeros-groups}
-use Rattle.uk_money_read.specs.Reading.{behind}
+use Rattle.uk_money_read.specs.Behind.{behind}
 use Rattle.uk_money_read.proofs.Answers.{behind-nouns, found, refused}
 use Rattle.uk_money_read.proofs.read_money.Statement.{statement}
 use Rattle.uk_money_read.proofs.read_money.Tie as tie
@@ -46,22 +48,21 @@ returns c =
 
 returns-2 : tie.Need-returns-2
 returns-2 c =
-    let a = c .before .before .before .before .before .before .before .before .before .before .before .before .before .before .before .before in
-    found (a .args .currency) (a .args .settings .case) (a .pre .1) (a .pre .0) (a .args .s .now) (zeros 22) refl (zeros-groups 22) (c .before .before .before .before .wide .result)
-    (c .before .is-amount2 .ensures .holds (c .if2 .taken))
+    let a = c .before .before .before .before .before .before .before .before .before .before .before .before .before .before .before in
+    found (a .args .currency) (a .args .settings .case) (a .pre .1) (a .pre .0) (a .args .s .now) (zeros 22) refl (zeros-groups 22) _ (c .before .is-amount2 .ensures .holds (c .if2 .taken))
 
 returns-3 : tie.Need-returns-3
 returns-3 c =
-    let a = c .before .before .before .before .before .before .before .before .before .before .before .before .before .before .before .before in
-    let m = made (c .before .before .before .before .before .before .before .before .before) in
-    refused (a .args .currency) (a .args .settings .case) (a .pre .1) (a .pre .0) (a .args .s .now) (c .before .before .before .before .before .before .before .before .before .before .before .before .before .groups .last .1 .1 .0) (zeros 22) (m .size) (m .small) refl (zeros-groups 22) refl
-    (m .groups) (c .before .before .before .before .before .before .before .before .before .lowest .result) (m .hundredths) (c .before .before .before .before .before .before .before .is-amount .ensures .fails (c .before .before .before .before .before .before .if1 .left))
-    (rw (← c .before .before .before .before .wide .ensures) (c .before .is-amount2 .ensures .fails (c .if2 .left)))
+    let a = c .before .before .before .before .before .before .before .before .before .before .before .before .before .before .before in
+    let m = made (c .before .before .before .before .before .before .before .before) in
+    refused (a .args .currency) (a .args .settings .case) (a .pre .1) (a .pre .0) (a .args .s .now) (c .before .before .before .before .before .before .before .before .before .before .before .before .groups .last .1 .1 .0) (zeros 22) (m .size) (m .small) refl (zeros-groups 22) refl
+    (m .groups) (c .before .before .before .before .before .before .before .before .lowest .result) (m .hundredths) (c .before .before .before .before .before .before .is-amount .ensures .fails (c .before .before .before .before .before .if1 .left)) (c .before .is-amount2 .ensures .fails (c .if2 .left))
 
 pub read-money-spec : {M : Type 1} → statement M
 read-money-spec =
     tie.close
     (tie.spec (λ c κs. search needs) (λ c. search needs) (λ c. search needs) (λ c. search needs) (λ c κs. search needs) (λ c. search needs)
     (λ c. search needs) (λ c. search needs) (λ c. search needs) (λ c κs. search needs)
-    (λ c κs. let a = c .before .before .before .before .before .before .before .before in (a .pre .0, a .pre .1, made (c .before) .small)) returns (λ c. search needs) (λ c κs. search needs) (λ c κs. search needs)
+    (λ c κs. let a = c .before .before .before .before .before .before .before .before in (a .pre .0, a .pre .1, made (c .before) .small)) returns (λ c. search needs)
+    (λ c. let m = made (c .before .before .before .before) in omega (arith, group-lt (c .before .before .before .before .before .before .before .before .groups .last .1 .1 .0) 0 (m .small) (rw (m .size) (omega arith)))) (λ c κs. search needs)
     returns-2 returns-3)

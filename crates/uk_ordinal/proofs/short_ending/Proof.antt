@@ -1,17 +1,18 @@
--- `uk_ordinal::short_ending` meets its contract.
+-- `uk_ordinal::short_ending` meets its contract: by gender, in the plural by case alone.
 -- Assumes nothing.
 use borrow.Author.Needs.{needs}
-use Rattle.uk_ordinal.proofs.Tables.{short-ending-at}
+use mathlib.Core.Path.{_∙_}
+use Rattle.uk_ordinal.proofs.Tables.{short-soft-at, short-hard-at, short-plural-at, short-soft, short-hard, short-more}
 use Rattle.uk_ordinal.proofs.short_ending.Statement.{statement}
 use Rattle.uk_ordinal.proofs.short_ending.Tie as tie
-
-returns : tie.Need-returns
-returns c =
-    let s = c .before .before .before in
-    let a = s .args .settings in
-    rw (c .number .ensures, c .before .before .row .ensures .0) (short-ending-at (a .gender) (a .number) (a .case) (s .pre .0) (s .pre .1) (s .pre .2) (s .args .soft))
 
 pub short-ending-spec : {M : Type 1} → statement M
 short-ending-spec =
     tie.close
-    (tie.spec (λ c κs. search needs) (λ c. search needs) (λ c. search needs) (λ c. search needs) (λ c κs. search needs) returns)
+    (tie.spec
+    (λ c. search needs) (λ c. search needs) (λ c. search needs) (λ c. search needs)
+    (λ c. short-soft-at _ _ ∙ short-soft _ _ _ _ (c .before .if2 .taken) (c .before .before .if1 .taken))
+    (λ c. search needs) (λ c. search needs) (λ c. search needs) (λ c. search needs)
+    (λ c. short-hard-at _ _ ∙ short-hard _ _ _ _ (c .before .if2 .left) (c .before .before .if1 .taken))
+    (λ c. search needs) (λ c. search needs)
+    (λ c. short-plural-at _ ∙ short-more (c .before .before .args .settings .gender) _ (c .before .before .args .soft) _ (c .if1 .left)))

@@ -1,6 +1,5 @@
 -- `uk_ordinal_calls::say_year` meets its contract.
 -- Assumes nothing.
-use Prim.Native.Nat.{ℕ}
 use mathlib.Core.Path.{_≡_, sym, ap, _∙_, subst}
 use native.Mathlib.Omega.{arith}
 use borrow.Author.Needs.{needs}
@@ -20,13 +19,14 @@ groups-are c = c .before .groups-from .ensures ∙ ap (groupsOf 22) (c .before .
 
 returns : tie.Need-returns
 returns c =
-    let a = c .before .before .before .before .before .before .before .before .before .before .before .before .before .before .before .args in
+    let s = c .before .before .before .before .before .before .before .before .before .before .before .before .before .before .before .before .before in
     let p = c .before .before .before .before .before .before .plan-year in
-    (heard _ _ _ (p .ensures .1 ∙ year-said (a .settings .number) (a .settings .case) (c .before .before .before .before .before .before .before .before .before .is-early .result) _ (a .year) (c .before .before .before .before .before .before .before .before .before .is-early .ensures ∙ ap early (toZ-ofZ (c .before .before .before .before .before .before .before .before .before .before .before .before .before .before .before .fits .year))) (groups-are (c .before .before .before .before .before .before .before .before .before .before))) (c .before .before .speak .ensures .0), omega (arith, c .before .before .speak .ensures .1, p .ensures .0))
+    let e = c .before .before .before .before .before .before .before .before .before .is-early in
+    (heard _ _ _ (p .ensures .1 ∙ year-said (s .args .settings .number) (s .args .settings .case) (e .result) _ (s .args .year) (e .ensures ∙ ap early (toZ-ofZ (s .fits .year))) (groups-are (c .before .before .before .before .before .before .before .before .before .before .before .before))) (c .before .before .speak .ensures .0), omega (arith, c .before .before .speak .ensures .1, p .ensures .0))
 
 pub say-year-spec : {M : Type 1} → statement M
 say-year-spec =
     tie.close
-    (tie.spec (λ c κs. search needs) (λ c. search needs) (λ c κs. search needs) (λ c κs. search needs) (λ c. search needs)
-    (λ c κs. let s = c .before .before .before .before .before .before .before .before in (s .pre, subst Groups22 (sym (groups-are (c .before .before .before))) (groups _), search needs))
-    (λ c. search needs) (λ c κs. let p = c .before .before .before .plan-year in (omega (arith, p .ensures .0, p .kept .1 .1 .1 .0), omega (arith, p .ensures .0))) (λ c. search needs) returns)
+    (tie.spec (λ c κs. search needs) (λ c. search needs) (λ c κs. search needs) (λ c. search needs) (λ c κs. search needs) (λ c κs. search needs) (λ c. search needs)
+    (λ c κs. (c .before .before .before .before .before .before .before .before .before .before .pre, subst Groups22 (sym (groups-are (c .before .before .before .before .before))) (groups _), c .before .before .before .top .ensures .0, search needs))
+    (λ c. search needs) (λ c κs. let p = c .before .before .before .plan-year in (omega (arith, p .ensures .0, p .kept .1 .1 .1 .1 .0), omega (arith, p .ensures .0))) (λ c. search needs) returns)

@@ -1,10 +1,9 @@
 -- `uk_ordinal_calls::to_ordinal_num` meets its contract.
 -- Assumes nothing.
-use mathlib.Core.Path.{_≡_, refl, sym, _∙_}
+use mathlib.Core.Path.{sym, _∙_}
 use native.Mathlib.Omega.{arith}
 use borrow.Author.Needs.{needs}
 use denote.Ref.{now}
-use Rattle.uk.specs.Settings.{unlessSettings}
 use Rattle.uk_ordinal_calls.specs.Calls.{refusedDigitOrdinal}
 use Rattle.base.proofs.Replies.{said, refused-as}
 use Rattle.uk_ordinal_calls.proofs.Admitted.{unrefused, digit-ordinal-digits}
@@ -25,9 +24,9 @@ returns c =
     (said _ _ _ _ _ (sym (c .before .before .before .before .before .before .refuse-digit-ordinal .ensures) ∙ c .before .before .before .before .before .if1 .taken) (rw (q .0, q .1, q .2) at (c .before .before .say .ensures .0)), c .before .before .say .ensures .1)
 
 returns-2 : tie.Need-returns-2
-returns-2 c = (refused-as _ _ _ _ _ (refl, refl) (c .before .refuse-digit-ordinal .ensures) (c .if1 .left), omega arith)
+returns-2 c = (refused-as _ _ _ _ _ (c .refused .ensures) (c .before .before .refuse-digit-ordinal .ensures) (c .before .if1 .left), omega (arith, c .refused .ensures .1))
 
 pub to-ordinal-num-spec : {M : Type 1} → statement M
 to-ordinal-num-spec =
     tie.close
-    (tie.spec (λ c κs. search needs) (λ c κs. search needs) say-requires (λ c. search needs) returns returns-2)
+    (tie.spec (λ c κs. search needs) (λ c κs. search needs) say-requires (λ c κs. search needs) (λ c. search needs) returns returns-2)

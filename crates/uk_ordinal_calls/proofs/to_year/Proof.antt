@@ -1,12 +1,11 @@
 -- `uk_ordinal_calls::to_year` meets its contract.
 -- Assumes nothing.
-use Prim.Native.Nat.{ℕ}
-use mathlib.Core.Path.{_≡_, refl, sym, _∙_}
+use mathlib.Core.Path.{refl, sym, _∙_}
 use native.Mathlib.Omega.{arith}
 use borrow.Author.Needs.{needs}
 use mir.Facts.{toZ-ofZ}
 use Rattle.uk_ordinal_calls.specs.Calls.{yearPhrase}
-use Rattle.base.proofs.Replies.{said, refused-as}
+use Rattle.base.proofs.Replies.{refused-as}
 use Rattle.uk.proofs.Ranges.{ranges}
 use Rattle.uk_ordinal_calls.proofs.to_year.Statement.{statement}
 use Rattle.uk_ordinal_calls.proofs.to_year.Tie as tie
@@ -23,13 +22,13 @@ returns c = let q = c .before .before .before .before .settings-of .ensures in (
 
 returns-2 : tie.Need-returns-2
 returns-2 c =
-    let a = c .before .before .before .args in (
-      rw (sym (c .before .in-range .ensures) ∙ c .if1 .left)
-          (refused-as _ _ (yearPhrase (a .number) (a .case) (a .year)) 1 1 (refl, refl) refl (λ e. omega arith)),
-      omega arith,
+    let a = c .before .before .before .before .args in (
+      rw (sym (c .before .before .in-range .ensures) ∙ c .before .if1 .left)
+          (refused-as _ _ (yearPhrase (a .number) (a .case) (a .year)) 1 1 (c .refused .ensures) refl (λ e. omega arith)),
+      omega (arith, c .refused .ensures .1),
     )
 
 pub to-year-spec : {M : Type 1} → statement M
 to-year-spec =
     tie.close
-    (tie.spec (λ c κs. search needs) (λ c κs. search needs) say-year-requires (λ c. search needs) returns returns-2)
+    (tie.spec (λ c κs. search needs) (λ c κs. search needs) say-year-requires (λ c κs. search needs) (λ c. search needs) returns returns-2)

@@ -1,6 +1,6 @@
 -- `uk_ordinal_plan::lowest` meets its contract. The invariant: the lowest group lies as far on as it does from the place reached.
 -- Assumes nothing.
-use Prim.Native.Nat.{ℕ, _+_, _-_, _<_, _≤_}
+use Prim.Native.Nat.{_+_, _-_, _<_, _≤_}
 use mathlib.Core.Path.{_≡_}
 use native.Mathlib.Omega.{arith}
 use borrow.Author.Needs.{needs}

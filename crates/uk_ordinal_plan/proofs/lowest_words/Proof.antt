@@ -1,24 +1,21 @@
 -- `uk_ordinal_plan::lowest_words` meets its contract.
 -- Assumes nothing.
-use native.Mathlib.Omega.{arith}
 use borrow.Author.Needs.{needs}
-use Rattle.words.specs.Text.{text}
+use Rattle.words.specs.Part.{part}
+use Rattle.uk.specs.Pool.{ukPool}
 use Rattle.uk_ordinal_plan.proofs.Laws.{told, respeak}
 use Rattle.uk_ordinal_plan.proofs.Cases.{lowest-plain, lowest-scale}
+use native.Mathlib.Omega.{arith}
 use Rattle.uk_ordinal_plan.proofs.lowest_words.Statement.{statement}
 use Rattle.uk_ordinal_plan.proofs.lowest_words.Tie as tie
-
-returns : tie.Need-returns
-returns c =
-    let s = c .before .before .before .before .before .before in
-    respeak 6 (told (c .before .before .plain-words .ensures)) (omega arith) (lowest-plain (text (s .args .ending)) (s .args .lone) (s .args .order) (s .args .g) (s .pre .1) (c .before .before .before .before .if1 .taken))
-
-returns-2 : tie.Need-returns-2
-returns-2 c =
-    let s = c .before .before .before .before .before .before in
-    respeak 6 (c .before .before .scale-word .ensures) (omega arith) (lowest-scale (text (s .args .ending)) (s .args .lone) (s .args .order) (s .args .g) (s .pre .1) (c .before .before .before .before .if1 .left))
 
 pub lowest-words-spec : {M : Type 1} → statement M
 lowest-words-spec =
     tie.close
-    (tie.spec (λ c κs. search needs) (λ c. search needs) returns (λ c κs. search needs) (λ c. search needs) returns-2)
+    (tie.spec
+    (λ c κs. search needs)
+    (λ c. search needs)
+    (λ c. let s = c .before .before .before .before .before .before in respeak 6 (told (c .before .before .plain-words .ensures)) (omega arith) (lowest-plain (part ukPool (s .args .ending)) (s .args .lone) (s .args .order) (s .args .g) (s .pre .1) (c .before .before .before .before .if1 .taken)))
+    (λ c κs. search needs)
+    (λ c. search needs)
+    (λ c. let s = c .before .before .before .before .before .before in respeak 6 (c .before .before .scale-word .ensures) (omega arith) (lowest-scale (part ukPool (s .args .ending)) (s .args .lone) (s .args .order) (s .args .g) (s .pre .1) (c .before .before .before .before .if1 .left))))

@@ -8,5 +8,7 @@ use Rattle.uk_ordinal_plan.proofs.plan_ordinal.Tie as tie
 pub plan-ordinal-spec : {M : Type 1} → statement M
 plan-ordinal-spec =
     tie.close
-    (tie.spec (λ c κs. let s = c .before .before in (s .pre .0, s .pre .1, search needs)) (λ c. search needs)
+    (tie.spec
+    (λ c κs. let s = c .before .before in (s .pre .0, s .pre .1, s .pre .2, search needs))
+    (λ c. search needs)
     (λ c. let p = c .before .before .say-ordinal .ensures in (p .said .added .near, spoken-phrase p)))

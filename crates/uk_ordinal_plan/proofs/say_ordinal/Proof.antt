@@ -1,22 +1,24 @@
--- `uk_ordinal_plan::say_ordinal` meets its contract: zero, a lone group, or the groups above and the lowest.
+-- `uk_ordinal_plan::say_ordinal` meets its contract: zero's word, the lowest group alone, or the groups above it and the lowest.
 -- Assumes nothing.
 use Prim.Native.Nat.{ℕ, _<_}
-use mathlib.Core.Path.{_≡_, refl, sym, ap, _∙_, subst}
+use mathlib.Core.Path.{_≡_, sym, ap, _∙_, subst}
 use mathlib.Core.Bool.{Bool}
 use native.Mathlib.Omega.{arith}
 use borrow.Author.Needs.{needs}
+use borrow.Author.Tests.{eq-eqb, ne-eqb}
 use denote.Ref.{now}
-use lib.ListN.{length, getD}
-use Rattle.words.specs.Text.{text}
+use lib.ListN.{getD}
+use Rattle.words.specs.Part.{part}
+use Rattle.uk.specs.Pool.{ukPool}
 use Rattle.uk_ordinal.specs.Ordinal.{soft, flexion, lowest}
 use Rattle.uk_ordinal_plan.proofs.Laws.{told, speak, respeak}
-use Rattle.uk_ordinal_plan.proofs.Orders.{lowest-some, ordinal-zero, ordinal-lone, ordinal-higher}
+use Rattle.uk_ordinal_plan.proofs.Orders.{lowest-some, lone-is, ordinal-zero, ordinal-lone, ordinal-higher}
 use Rattle.uk_ordinal_plan.proofs.say_ordinal.Statement.{statement}
 use Rattle.uk_ordinal_plan.proofs.say_ordinal.Tie as tie
 
 -- the ending of the number
 ends : (c : tie.After-ending) → let a = c .before .before .before .before .args in
-    text (c .ending .result) ≡ flexion (soft (getD (now (a .gs)) 0 0)) (a .settings .gender) (a .settings .number) (a .settings .case)
+    part ukPool (c .ending .result) ≡ flexion (soft (getD (now (a .gs)) 0 0)) (a .settings .gender) (a .settings .number) (a .settings .case)
 ends c = let a = c .before .before .before .before .args in c .ending .ensures ∙ ap (λ (b : Bool). flexion b (a .settings .gender) (a .settings .number) (a .settings .case)) (c .before .is-soft .ensures)
 
 -- the lowest group is one
@@ -39,40 +41,39 @@ lowest-words-requires : tie.Need-lowest-words-requires
 lowest-words-requires c κs =
     let s = c .before .before .before .before .before .before .before .before .before .before in
     let p = c .before .before .before .before .before .lowest in
-    (omega (arith, p .ensures .1, c .before .before .before .before .if1 .left), lowest-is (c .before .before .before .before), s .pre .1 .below (p .result), omega (arith, s .pre .2))
+    rw (c .before .before .wide-group .ensures) (omega (arith, p .ensures .1, c .before .before .before .before .if1 .left), lowest-is (c .before .before .before .before), s .pre .1 .below (p .result), omega (arith, s .pre .3))
 
 returns-2 : tie.Need-returns-2
 returns-2 c =
     let s = c .before .before .before .before .before .before .before .before .before .before .before .before .before in
     let a = s .args in
     let p = c .before .before .before .before .before .before .before .before .lowest in
-    respeak 116 (c .before .before .lowest-words .ensures) (omega arith)
+    respeak 116 (rw (c .before .before .before .before .before .wide-group .ensures) at (c .before .before .lowest-words .ensures)) (omega arith)
     (ordinal-lone (a .settings .gender) (a .settings .number) (a .settings .case) (now (a .gs)) (s .pre .1 .count) _ (ends (c .before .before .before .before .before .before .before .before .before)) (p .result) (p .ensures .0)
-    (omega (arith, p .ensures .1, c .before .before .before .before .before .before .before .if1 .left)) (sym (c .before .before .before .before .before .is-lone .ensures) ∙ c .before .before .before .before .if2 .taken))
+    (omega (arith, p .ensures .1, c .before .before .before .before .before .before .before .if1 .left)) (sym (lone-is (now (a .gs)) (a .n) (p .result) (s .pre .2) (λ z. omega (arith, lowest-is (c .before .before .before .before .before .before .before)))) ∙ eq-eqb _ _ (c .before .before .before .before .if2 .taken)))
 
 lowest-words-requires-2 : tie.Need-lowest-words-requires-2
 lowest-words-requires-2 c κs =
     let s = c .before .before .before .before .before .before .before .before .before .before .before .before .before .before in
     let p = c .before .before .before .before .before .before .before .before .before .lowest in
     let q = c .before .before .before .higher in
-    (omega (arith, p .ensures .1, c .before .before .before .before .before .before .before .before .if1 .left), lowest-is (c .before .before .before .before .before .before .before .before), s .pre .1 .below (p .result), omega (arith, s .pre .2, q .ensures .added .near, q .kept .1 .1 .0))
+    rw (c .before .before .before .before .before .before .wide-group .ensures) (omega (arith, p .ensures .1, c .before .before .before .before .before .before .before .before .if1 .left), lowest-is (c .before .before .before .before .before .before .before .before), s .pre .1 .below (p .result), omega (arith, s .pre .3, q .ensures .added .near, q .kept .1 .1 .1 .0))
 
 returns-3 : tie.Need-returns-3
 returns-3 c =
     let s = c .before .before .before .before .before .before .before .before .before .before .before .before .before .before .before .before .before in
     let a = s .args in
     let p = c .before .before .before .before .before .before .before .before .before .before .before .before .lowest in
-    respeak 116 (speak 116 (told (c .before .before .before .before .before .before .higher .ensures)) (c .before .before .lowest-words2 .ensures) (omega arith)) (omega arith)
+    respeak 116 (speak 116 (told (c .before .before .before .before .before .before .higher .ensures)) (rw (c .before .before .before .before .before .before .before .before .before .wide-group .ensures) at (c .before .before .lowest-words2 .ensures)) (omega arith)) (omega arith)
     (ordinal-higher (a .settings .gender) (a .settings .number) (a .settings .case) (now (a .gs)) (s .pre .1 .count) _ (ends (c .before .before .before .before .before .before .before .before .before .before .before .before .before)) (p .result) (p .ensures .0)
-    (sym (c .before .before .before .before .before .before .before .before .before .is-lone .ensures) ∙ c .before .before .before .before .before .before .before .before .if2 .left))
+    (sym (lone-is (now (a .gs)) (a .n) (p .result) (s .pre .2) (λ z. omega (arith, lowest-is (c .before .before .before .before .before .before .before .before .before .before .before)))) ∙ ne-eqb _ _ (c .before .before .before .before .before .before .before .before .if2 .left)))
 
 pub say-ordinal-spec : {M : Type 1} → statement M
 say-ordinal-spec =
     tie.close
     (tie.spec (λ c. search needs) (λ c κs. search needs) (λ c κs. c .before .before .before .pre .0) (λ c κs. c .before .before .before .before .pre .1 .count)
-    (λ c κs. omega (arith, c .before .before .before .before .before .before .before .pre .2)) (λ c. search needs) returns (λ c. search needs) (λ c. search needs)
-    (λ c. omega (arith, c .before .before .before .before .before .before .before .pre .1 .below (c .before .before .lowest .result)))
-    (λ c κs. (c .before .before .before .before .before .before .before .pre .1, omega (arith, c .before .before .lowest .ensures .1, c .before .if1 .left), c .before .before .lowest .ensures .0))
+    (λ c κs. omega (arith, c .before .before .before .before .before .before .before .pre .3)) (λ c. search needs) returns (λ c. search needs) (λ c. search needs)
+    (λ c κs. search needs) (λ c. search needs)
     lowest-words-requires (λ c. search needs) returns-2
-    (λ c κs. (omega (arith, c .before .before .before .before .before .lowest .ensures .1, c .before .before .before .before .if1 .left), omega (arith, c .before .before .before .before .before .before .before .before .before .before .pre .2)))
+    (λ c κs. let s = c .before .before .before .before .before .before .before .before .before .before in (omega (arith, c .before .before .before .before .before .lowest .ensures .1, c .before .before .before .before .if1 .left), omega (arith, s .pre .2 .within, s .pre .1 .count), s .pre .2 .zeros, omega (arith, s .pre .3)))
     lowest-words-requires-2 (λ c. search needs) returns-3)

@@ -1,7 +1,7 @@
--- The proof of the cycle of calls {groups}. The measure is the order.
+-- `uk_plan::groups` meets its contract: the group of the highest order, then those below it; the number of orders falls.
 -- Assumes nothing.
 use Prim.Native.Nat.{ℕ, _<_, _*_}
-use mathlib.Core.Path.{refl, _∙_}
+use mathlib.Core.Path.{_∙_}
 use native.Mathlib.Omega.{arith}
 use borrow.Author.Needs.{needs}
 use borrow.Fn.Kinds.{In}
@@ -17,14 +17,14 @@ use Rattle.uk_plan.proofs.group.Reads as group-reads
 use Rattle.uk_plan.proofs.+groups.{statement}
 use Rattle.uk_plan.proofs.+groups.Tie.{close}
 
-abbrev μ : Measures 3 groups-kinds.ps ℕ
-μ κs a = a .1 .1 .1 .0
+abbrev μ : Measures 2 groups-kinds.ps ℕ
+μ κs a = a .1 .1 .0
 
-abbrev at : ℕ → In 3 groups-kinds.ps
-at t = and 3 groups-kinds.ps (is 3 groups-kinds.ps μ t) groups-reads.Pre
+abbrev at : ℕ → In 2 groups-kinds.ps
+at t = and 2 groups-kinds.ps (is 2 groups-kinds.ps μ t) groups-reads.Pre
 
-abbrev below : ℕ → In 3 groups-kinds.ps
-below t = and 3 groups-kinds.ps (falls 3 groups-kinds.ps _<_ μ t) groups-reads.Pre
+abbrev below : ℕ → In 2 groups-kinds.ps
+below t = and 2 groups-kinds.ps (falls 2 groups-kinds.ps _<_ μ t) groups-reads.Pre
 
 pub +groups-spec : {M : Type 1} → statement M
 unfolding groupsBelow
@@ -35,14 +35,14 @@ unfolding groupsBelow
     (λ c. search needs)
     (λ c. search needs)
     (λ c. search needs)
-    (λ c κs. let s = c .before .before .before .before .before in (s .pre .1 .0, s .pre .1 .1, omega arith, omega (arith, s .pre .1 .3)))
+    (λ c κs. let s = c .before .before .before .before in (s .pre .1 .0, s .pre .1 .1, omega arith, omega (arith, s .pre .1 .3)))
     (λ c κs.
-    let s = c .before .before .before .before .before .before .before .before .before in
+    let s = c .before .before .before .before .before .before .before .before in
     let p = c .before .before .before .group in
-    (omega (arith, s .pre .0), (s .pre .1 .0, s .pre .1 .1, omega arith, omega (arith, s .pre .1 .3, p .ensures .added .near, p .kept .1 .1 .1 .1 .1 .0))))
-    (λ c. c .before .before .groups .kept .1 .1 .1 .1 .1 .0 ∙ c .before .before .before .before .before .before .group .kept .1 .1 .1 .1 .1 .0)
+    (omega (arith, s .pre .0), (s .pre .1 .0, s .pre .1 .1, omega arith, omega (arith, s .pre .1 .3, p .ensures .added .near, p .kept .1 .1 .1 .1 .0))))
+    (λ c. c .before .before .groups .kept .1 .1 .1 .1 .0 ∙ c .before .before .before .before .before .before .group .kept .1 .1 .1 .1 .0)
     (λ c.
-    let s = c .before .before .before .before .before .before .before .before .before .before .before .before in
+    let s = c .before .before .before .before .before .before .before .before .before .before .before in
     let n = s .args .n in
     let z = c .before .before .before .before .before .before .before .before .before .if1 .left in
     retell (5 * n) (tell (5 * n) (c .before .before .before .before .before .before .group .ensures) (c .before .before .groups .ensures) (omega (arith, z))) (omega arith)

@@ -1,47 +1,30 @@
 -- `uk_plan::group` meets its contract.
 -- Assumes nothing.
-use Prim.Native.Nat.{ℕ, _+_, _*_, _<_, _≤_, _/_, _%_}
-use mathlib.Core.Path.{_≡_, refl, sym, ap, _∙_}
-use mathlib.Core.List.{[], _∷_, _++_}
-use native.Mathlib.Omega.{arith}
 use borrow.Author.Needs.{needs}
-use denote.Ref.{now}
-use lib.ListN.{length, getD}
-use Rattle.words.specs.Text.{text}
-use Rattle.uk.specs.UkTables.{megaBases, thousandFlexions, megaFlexions}
-use Rattle.base.specs.Utf8.{form1}
-use Rattle.uk.specs.Columns.{ending}
-use Rattle.plan.proofs.Tells.{quiet, tell, retell, told-word, told-ended}
-use Rattle.uk.specs.Rules.{opt, lowWords, nounWords}
-use Rattle.uk.specs.Ukrainian.{ukrainian, genderAt, unitForm, teenForm, nounForm}
-use Rattle.uk.specs.Cardinal.{groupOf, cardinalWords}
-use Rattle.uk_plan.proofs.Cases.{opt-none, opt-some, low-ten, noun-some, ending-one, ending-more, group-some}
+use Prim.Native.Nat.{_/_, _%_}
+use Rattle.plan.proofs.Tells.{quiet, tell, retell}
+use Rattle.uk.specs.Ukrainian.{ukrainian}
+use Rattle.uk.specs.Cardinal.{groupOf}
+use Rattle.uk_plan.proofs.Cases.{low-at, noun-any, group-some}
+use native.Mathlib.Omega.{arith}
 use Rattle.uk_plan.proofs.group.Statement.{statement}
 use Rattle.uk_plan.proofs.group.Tie as tie
 
-returns : tie.Need-returns
-unfolding groupOf
-returns c = rw (c .if1 .taken) (quiet 5 _ _)
-
-low-words-requires : tie.Need-low-words-requires
-low-words-requires c κs =
-    let s = c .before .before .before .before .before .before .before .before in
-    let p = c .before .before .before .hundred-word in
-    (s .pre .0, s .pre .1, omega arith, omega arith, omega (arith, s .pre .3, p .ensures .added .near, p .kept .1 .1 .1 .1 .0))
-
-noun-word-requires : tie.Need-noun-word-requires
-noun-word-requires c κs =
-    let s = c .before .before .before .before .before .before .before .before .before .before .before .before in
-    let p = c .before .before .before .before .before .before .before .hundred-word in
-    let q = c .before .before .before .low-words in
-    (s .pre .0, s .pre .2, omega (arith, s .pre .3, p .ensures .added .near, p .kept .1 .1 .1 .1 .0, q .ensures .added .near, q .kept .1 .1 .1 .1 .1 .1 .0))
-
-returns-2 : tie.Need-returns-2
-returns-2 c =
-    let s = c .before .before .before .before .before .before .before .before .before .before .before .before .before .before .before in
-    let n = c .before .before .before .before .before .before .before .before .before .before .before .before .if1 .left in
-    retell 5 (tell 5 (c .before .before .before .before .before .before .before .before .before .before .hundred-word .ensures) (tell 4 (c .before .before .before .before .before .before .low-words .ensures) (c .before .before .noun-word .ensures) (omega arith)) (omega arith)) (omega arith)
-    (group-some (ukrainian (s .args .gender) (s .args .case)) (s .args .order) (s .args .g) n)
-
 pub group-spec : {M : Type 1} → statement M
-group-spec = tie.close (tie.spec returns (λ c κs. search needs) low-words-requires noun-word-requires (λ c. search needs) returns-2)
+unfolding groupOf ukrainian
+group-spec =
+    tie.close
+    (tie.spec
+    (λ c. rw (c .if1 .taken) (quiet 5 _ _))
+    (λ c κs. search needs)
+    (λ c κs. search needs) (λ c κs. search needs) (λ c κs. search needs) (λ c κs. search needs)
+    (λ c. search needs)
+    (λ c.
+    let a = c .before .before .before .before .before .before .before .before .before .before .before .before .before .before .before .before .args in
+    let w = c .before .before .before .before .before .before .before .before .before .before .before .before .before .wide-group .ensures in
+    let l = rw (c .before .before .before .before .before .before .before .before .gender-at .ensures .0, w) at (c .before .before .before .before .before .before .low-words .ensures) in
+    let t = a .g / 10 % 10 in
+    let u = a .g % 10 in
+    retell 5 (tell 5 (rw w at (c .before .before .before .before .before .before .before .before .before .before .before .hundred-word .ensures))
+    (tell 4 (retell 2 l (omega arith) (low-at (a .gender) (a .case) (a .order) t u)) (retell 2 (rw w at (c .before .before .noun-word .ensures)) (omega arith) (noun-any (a .gender) (a .case) (a .order) t u)) (omega arith)) (omega arith)) (omega arith)
+    (group-some (ukrainian (a .gender) (a .case)) (a .order) (a .g) (c .before .before .before .before .before .before .before .before .before .before .before .before .before .before .if1 .left))))

@@ -1,13 +1,15 @@
--- `uk_plan::plan_cardinal` meets its contract: pieces that say words are those words, joined.
+-- `uk_plan::plan_cardinal` meets its contract.
 -- Assumes nothing.
-use native.Mathlib.Omega.{arith}
 use borrow.Author.Needs.{needs}
 use Rattle.plan.proofs.Tells.{told-phrase}
+use native.Mathlib.Omega.{arith}
 use Rattle.uk_plan.proofs.plan_cardinal.Statement.{statement}
 use Rattle.uk_plan.proofs.plan_cardinal.Tie as tie
 
 pub plan-cardinal-spec : {M : Type 1} → statement M
 plan-cardinal-spec =
     tie.close
-    (tie.spec (λ c κs. search needs) (λ c. search needs)
-    (λ c. let p = c .before .before .say-cardinal .ensures in (p .added .near, told-phrase p)))
+    (tie.spec
+    (λ c κs. search needs)
+    (λ c. search needs)
+    (λ c. let p = c .before .before .say-cardinal .ensures in (omega (arith, p .added .near), told-phrase p)))

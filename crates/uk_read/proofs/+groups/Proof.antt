@@ -1,18 +1,16 @@
 -- The proof of the cycle of calls {groups}. The measure is the order.
 -- Assumes nothing.
-use Prim.Native.Nat.{ℕ, _+_, _-_, _<_, _≤_, suc}
-use mathlib.Core.Path.{_≡_, refl, sym, ap, _∙_}
-use mathlib.Core.List.{List, _++_, _∷_}
+use Prim.Native.Nat.{ℕ, _<_}
+use mathlib.Core.Path.{sym}
 use native.Mathlib.Omega.{arith}
 use borrow.Author.Needs.{needs}
 use borrow.Fn.Kinds.{In}
 use borrow.Fn.PlainCycle.{Measures, is, falls, and}
-use lib.ListN.{length, drop, set, take-append-drop}
-use lib.Seq.{drop-drop}
-use Rattle.plan.proofs.Laws.{from, from-is, from-length}
+use lib.ListN.{take-append-drop}
+use Rattle.plan.proofs.Laws.{from-length}
 use Rattle.tokens.specs.Tokens.{split}
-use Rattle.uk_read.specs.Reading.{taken, sums, left}
-use Rattle.uk_read.proofs.Below.{zeros, none-below, reads-below, left-below, set-below, set-groups}
+use Rattle.uk_read.specs.Reading.{taken, left}
+use Rattle.uk_read.proofs.Below.{none-below, reads-below, left-below, set-below, set-groups}
 use Rattle.uk_read.proofs.groups.Reads as groups-reads
 use Rattle.uk_read.proofs.groups.Kinds as groups-kinds
 use Rattle.uk_read.proofs.+groups.Lts-groups as groups-lts
@@ -43,7 +41,7 @@ pub +groups-spec : {M : Type 1} → statement M
     let s = c .before .before .before .before .before in
     let o = c .before .before .if1 .taken in
     (omega (arith, s .pre .0, o), (omega (arith, s .pre .1 .0, o), set-below (s .args .out .now) (s .args .k) (s .pre .1 .1) (c .before .before .before .first-group .result .order) _ o)))
-    (λ c. omega (arith, c .groups .ensures .1 .1, from-length (c .before .before .before .before .first-group .result .at) (c .before .before .before .before .before .before .args .s .now), c .before .before .before .before .first-group .ensures .1 .1))
+    (λ c. omega (arith, c .groups .ensures .1 .1, from-length (c .before .before .before .before .first-group .result .next) (c .before .before .before .before .before .before .args .s .now), c .before .before .before .before .first-group .ensures .1 .1))
     (λ c.
     let s = c .before .before .before .before .before .before in
     let g = c .before .before .before .before .first-group in
@@ -55,7 +53,7 @@ pub +groups-spec : {M : Type 1} → statement M
     let z = s .pre .1 .1 in
     let a = g .result .order in
     let v = g .result .value in
-    let i = g .result .at in (
+    let i = g .result .next in (
       (
         reads-below (s .args .s .now) x y k a v i (c .groups .result) z o (g .ensures .0 .0) (g .ensures .0 .1) (g .ensures .1 .0) (p .0 .0),
         λ q. p .0 .1 (set-groups x a v (g .ensures .0 .2) q),

@@ -2,7 +2,7 @@
 -- Assumes nothing.
 use Prim.Native.Nat.{ℕ, _+_, _-_, _<_, _≤_}
 use mathlib.Core.List.{List, _∷_}
-use mathlib.Core.Path.{_≡_, refl, sym, ap, _∙_}
+use mathlib.Core.Path.{_≡_, refl, ap, _∙_}
 use native.Mathlib.Omega.{arith}
 use borrow.Author.Needs.{needs}
 use lib.ListN.{length, drop}
@@ -10,7 +10,7 @@ use Rattle.base.specs.Join.{Word}
 use Rattle.plan.proofs.Laws.{from, from-length}
 use Rattle.tokens.specs.Tokens.{firstWord, split}
 use Rattle.uk_meanings.specs.Meanings.{meaningOf}
-use Rattle.uk_read.specs.Reading.{mean, Taken, taken}
+use Rattle.uk_read.specs.Reading.{mean, taken}
 use Rattle.uk_read.proofs.Taking.{closed}
 use Rattle.uk_read.proofs.Texts.{word-at, stopped, scaled, added, ended}
 use Rattle.uk_read.proofs.first_group.Statement.{statement}

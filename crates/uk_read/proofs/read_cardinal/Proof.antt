@@ -12,8 +12,10 @@ use lib.Seq.{length-take-le}
 use Rattle.base.specs.Decides.{Decides}
 use Rattle.base.specs.Join.{joined}
 use Rattle.figures.specs.Groups.{total, Groups}
+use Rattle.groups.proofs.Highest.{top-zero}
 use Rattle.plan.proofs.Laws.{from-is}
 use Rattle.tokens.specs.Tokens.{split}
+use Rattle.uk.specs.Pool.{ukPool}
 use Rattle.uk.specs.Ukrainian.{ukrainian}
 use Rattle.uk.specs.Cardinal.{cardinalWords}
 use Rattle.uk_read.specs.Reading.{sums, signed, unsigned}
@@ -49,6 +51,10 @@ made c =
       groups = e;
     }
 
+-- the groups are 0 just where the highest of them that is not stands nowhere
+zero-is : (c : tie.After-top) → eqb (c .top .result) 0 ≡ eqb (total (c .before .before .before .groups .last .1 .1 .0)) 0
+zero-is c = top-zero _ _ (c .top .ensures .0) (c .top .ensures .1)
+
 -- whether the words that these have are the bytes
 decided : (c : tie.After-stands) → let a = c .before .before .before .before .before .before .before .before .before .before .before .before .before .before .args in let gs = c .before .before .before .before .before .before .before .before .before .groups .last .1 .1 .0 in
     Decides (c .stands .result) (joined (cardinalWords (ukrainian (a .settings .gender) (a .settings .case)) (eqb (total gs) 0) (ltb 0 (c .before .before .before .before .before .before .before .before .before .before .before .before .minus .result)) gs) ≡ a .s .now)
@@ -56,8 +62,8 @@ decided c =
     let a = c .before .before .before .before .before .before .before .before .before .before .before .before .before .before .args in
     let gs = c .before .before .before .before .before .before .before .before .before .groups .last .1 .1 .0 in
     let p = c .before .before .before .plan-cardinal in
-    words-stand (c .stands .result) (a .s .now) (p .last .1 .1 .1 .1 .0) _ (p .result)
-    (p .ensures .1 ∙ ap (λ (b : Bool). joined (cardinalWords (ukrainian (a .settings .gender) (a .settings .case)) b (ltb 0 (c .before .before .before .before .before .before .before .before .before .before .before .before .minus .result)) gs)) (c .before .before .before .before .before .before .is-zero .ensures))
+    words-stand (c .stands .result) (a .s .now) ukPool (p .last .1 .1 .1 .1 .1 .0) _ (p .result)
+    (p .ensures .1 ∙ ap (λ (b : Bool). joined (cardinalWords (ukrainian (a .settings .gender) (a .settings .case)) b (ltb 0 (c .before .before .before .before .before .before .before .before .before .before .before .before .minus .result)) gs)) (zero-is (c .before .before .before .before .before .before)))
     (c .stands .ensures)
 
 returns : tie.Need-returns
@@ -66,7 +72,7 @@ returns c =
     let m = made (c .before .before .before .before .before .before .before .before .before .before) in (
       rw (c .seen-of .ensures)
           (read _ (lawful (a .args .settings .gender) (a .args .settings .case) (a .pre .0) (a .pre .1)) (a .args .s .now) (c .before .before .before .before .before .before .before .before .before .before .groups .last .1 .1 .0) _ (m .size) (m .small) (m .sign) (m .groups) _ _
-          (c .before .before .before .before .before .before .before .is-zero .ensures) (decided (c .before))),
+          (zero-is (c .before .before .before .before .before .before .before)) (decided (c .before))),
       m .small,
       m .size,
     )
@@ -74,10 +80,13 @@ returns c =
 slice-aggregate-stands : tie.Need-slice-aggregate-stands
 slice-aggregate-stands c =
     let p = c .before .before .plan-cardinal in
-    sym (length-take-le (p .result) (p .last .1 .1 .1 .1 .0) (omega (arith, p .ensures .0, p .kept .1 .1 .1 .1 .0)))
+    sym (length-take-le (p .result) (p .last .1 .1 .1 .1 .1 .0) (omega (arith, p .ensures .0, p .kept .1 .1 .1 .1 .1 .0)))
+
+plan-cardinal-requires : tie.Need-plan-cardinal-requires
+plan-cardinal-requires c κs = let s = c .before .before .before .before .before .before .before .before .before .before in let t = c .before .before .top .ensures .0 in (s .pre .0, s .pre .1, omega (arith, t .within, made (c .before .before .before .before .before) .size), t .zeros, omega arith)
 
 pub read-cardinal-spec : {M : Type 1} → statement M
 read-cardinal-spec =
     tie.close
     (tie.spec (λ c κs. search needs) (λ c. search needs) (λ c. search needs) (λ c. search needs) (λ c κs. search needs) (λ c κs. search needs)
-    (λ c. search needs) (λ c κs. search needs) (λ c. search needs) slice-aggregate-stands (λ c κs. search needs) (λ c κs. search needs) returns)
+    (λ c. search needs) plan-cardinal-requires (λ c. search needs) slice-aggregate-stands (λ c κs. search needs) (λ c κs. search needs) returns)

@@ -1,12 +1,13 @@
 -- `phrases_answers::french::card` meets its contract.
 -- Assumes nothing.
-use mathlib.Core.Path.{_≡_, sym, _∙_}
+use mathlib.Core.Path.{sym, _∙_}
 use native.Mathlib.Omega.{arith}
 use borrow.Author.Needs.{needs}
 use lib.ListN.{length-take}
 use mathlib.Core.Bool.{true}
 use Rattle.figures.specs.Refusals.{judgeDigits}
-use Rattle.fr_calls.specs.Calls.{french, inRange, firstRefusal, cardinalRefusal, cardinalOf}
+use Rattle.fr.specs.Settings.{french}
+use Rattle.fr_calls.specs.Calls.{inRange, firstRefusal, cardinalRefusal, cardinalOf}
 use Rattle.phrases_forms.specs.Line.{inner, closed}
 use Rattle.phrases_answers.specs.Answers.{frenchForm}
 use Rattle.phrases_answers.proofs.Laws.{small-number, spoken, unspoken, judged-small, cond-small, closed-some}

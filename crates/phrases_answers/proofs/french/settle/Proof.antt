@@ -1,7 +1,6 @@
 -- `phrases_answers::french::settle` meets its contract.
 -- Assumes nothing.
-use mathlib.Core.Path.{_≡_, refl, sym, ap, _∙_}
-use native.Mathlib.Omega.{arith}
+use mathlib.Core.Path.{sym, _∙_}
 use borrow.Author.Needs.{needs}
 use Rattle.phrases_answers.proofs.Laws.{settle-fr, unsettled-fr, tail}
 use Rattle.phrases_answers.proofs.french.settle.Statement.{statement}

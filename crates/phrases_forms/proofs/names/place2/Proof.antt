@@ -1,6 +1,6 @@
 -- `phrases_forms::names::place2` meets its contract.
 -- Assumes nothing.
-use mathlib.Core.Path.{_≡_, refl, sym, _∙_}
+use mathlib.Core.Path.{refl, sym, _∙_}
 use borrow.Author.Needs.{needs}
 use Rattle.phrases_forms.proofs.names.place2.Statement.{statement}
 use Rattle.phrases_forms.proofs.names.place2.Tie as tie

@@ -1,6 +1,6 @@
 -- `phrases_forms::names::place3` meets its contract.
 -- Assumes nothing.
-use mathlib.Core.Path.{_≡_, sym, _∙_}
+use mathlib.Core.Path.{sym, _∙_}
 use borrow.Author.Needs.{needs}
 use Rattle.base.specs.Same.{sameText}
 use Rattle.phrases_forms.proofs.Words.{early, late}

@@ -1,7 +1,6 @@
 -- `phrases_forms::runs::is_free` meets its contract.
 -- Assumes nothing.
-use mathlib.Core.Path.{_≡_, refl, sym, _∙_}
-use borrow.Author.Needs.{needs}
+use mathlib.Core.Path.{refl}
 use borrow.Author.Tests.{eq-eqb, ne-eqb}
 use Rattle.phrases_forms.proofs.runs.is_free.Statement.{statement}
 use Rattle.phrases_forms.proofs.runs.is_free.Tie as tie

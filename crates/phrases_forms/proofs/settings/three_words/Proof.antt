@@ -1,7 +1,6 @@
 -- `phrases_forms::settings::three_words` meets its contract.
 -- Assumes nothing.
 use Prim.Native.Nat.{_+_}
-use mathlib.Core.Path.{_≡_}
 use native.Mathlib.Omega.{arith}
 use borrow.Author.Needs.{needs}
 use Rattle.phrases_forms.specs.Line.{rest}

@@ -6,24 +6,24 @@ use native.Mathlib.Omega.{arith}
 use borrow.Author.Needs.{needs}
 use denote.Ref.{now}
 use lib.ListN.{length, set, length-set}
-use Rattle.base.proofs.Arms.{whole}
-use Rattle.words.specs.Text.{text as textOf}
+use Rattle.words.specs.Part.{part}
+use Rattle.uk_ordinal.specs.Pool.{shortPool}
 use Rattle.plan.proofs.Laws.{from-length}
-use Rattle.uk_ordinal_calls.proofs.Hyphened.{size-is, hyphened}
+use Rattle.uk_ordinal_calls.proofs.Hyphened.{whole, size-is, hyphened}
 use Rattle.uk_ordinal_calls.proofs.digits.put.Statement.{statement}
 use Rattle.uk_ordinal_calls.proofs.digits.put.Tie as tie
 
 -- room for the digits, the hyphen and the ending
-room : (c : tie.Start) → length (now (c .args .text)) + suc (length (textOf (c .args .ending))) ≤ length (now (c .args .out))
-room c = rw (size-is (now (c .args .text)) (textOf (c .args .ending))) at (c .pre)
+room : (c : tie.Start) → length (now (c .args .text)) + suc (length (part shortPool (c .args .ending))) ≤ length (now (c .args .out))
+room c = rw (size-is (now (c .args .text)) (part shortPool (c .args .ending))) at (c .pre)
 
 returns : tie.Need-returns
 returns c =
     let s = c .before .before .before .before .before .before .before .before .before .before in
     let p = c .before .before .before .before .before .before .copy in
     let w = whole (p .result) (now (s .args .text)) (now (s .args .out)) (p .last .1 .0) (p .ensures) in (
-      omega (arith, size-is (now (s .args .text)) (textOf (s .args .ending)), w .0, c .before .before .put .ensures .0),
-      hyphened (now (s .args .out)) (now (s .args .text)) (textOf (s .args .ending)) (p .last .1 .0) _ (p .result) (w .0) (w .1) (omega (arith, room s)) (c .before .before .put .ensures .1),
+      omega (arith, size-is (now (s .args .text)) (part shortPool (s .args .ending)), w .0, c .before .before .put-short .ensures .0),
+      hyphened (now (s .args .out)) (now (s .args .text)) (part shortPool (s .args .ending)) (p .last .1 .0) _ (p .result) (w .0) (w .1) (omega (arith, room s)) (c .before .before .put-short .ensures .1),
     )
 
 pub put-spec : {M : Type 1} → statement M
@@ -37,6 +37,6 @@ put-spec =
     (λ c. search needs)
     (λ c κs. let p = c .before .before .before .copy in let ys = set (p .last .1 .0) (p .result) 45 in
     omega (arith, room (c .before .before .before .before .before .before .before), p .ensures .0, p .kept .1 .0, from-length (p .result + 1) ys, length-set (p .last .1 .0) (p .result) 45))
-    (λ c. omega (arith, room (c .before .before .before .before .before .before .before .before .before .before), c .before .before .before .before .before .before .copy .ensures .0, c .before .before .put .ensures .0, c .before .before .before .before .before .before .before .before .before .before))
+    (λ c. omega (arith, room (c .before .before .before .before .before .before .before .before .before .before), c .before .before .before .before .before .before .copy .ensures .0, c .before .before .put-short .ensures .0, c .before .before .before .before .before .before .before .before .before .before))
     (λ c. let p = c .before .before .before .before .before .before .copy in c .before .out2 .given .1 ∙ length-set (p .last .1 .0) (p .result) 45 ∙ p .kept .1 .0)
     returns)

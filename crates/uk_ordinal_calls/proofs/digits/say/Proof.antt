@@ -8,8 +8,9 @@ use native.Mathlib.Omega.{arith}
 use borrow.Author.Needs.{needs}
 use denote.Ref.{now}
 use lib.ListN.{length}
-use Rattle.words.specs.Text.{text as textOf}
-use Rattle.words.proofs.Banks.{text-short}
+use Rattle.words.specs.Part.{part}
+use Rattle.words.proofs.Parts.{part-short}
+use Rattle.uk_ordinal.specs.Pool.{shortPool}
 use Rattle.uk_ordinal.specs.DigitOrdinal.{digitOrdinal}
 use Rattle.plan.proofs.Spoken.{too-long, written}
 use Rattle.base.proofs.Replies.{heard}
@@ -20,30 +21,30 @@ use Rattle.uk_ordinal_calls.proofs.digits.say.Tie as tie
 -- what is written, and how long it is
 module _ (c : tie.After-short-ending) where
   abbrev said : List ℕ
-  said = now (c .before .before .before .before .args .text) ++ (45 ∷ textOf (c .short-ending .result))
+  said = now (c .before .before .before .before .args .text) ++ (45 ∷ part shortPool (c .short-ending .result))
 
   is-said : said ≡ digitOrdinal (c .before .before .before .before .args .settings .gender) (c .before .before .before .before .args .settings .number) (c .before .before .before .before .args .settings .case) (now (c .before .before .before .before .args .text))
   is-said =
       let a = c .before .before .before .before .args in
-      is-ordinal (a .settings .gender) (a .settings .number) (a .settings .case) (now (a .text)) (textOf (c .short-ending .result)) (c .before .is-soft .result) (c .before .is-soft .ensures) (c .short-ending .ensures)
+      is-ordinal (a .settings .gender) (a .settings .number) (a .settings .case) (now (a .text)) (part shortPool (c .short-ending .result)) (c .before .is-soft .result) (c .before .is-soft .ensures) (c .short-ending .ensures)
 
-  size : (n : ℕ) → n ≡ length (textOf (c .short-ending .result)) → length (now (c .before .before .before .before .args .text)) + 1 + n ≡ length said
-  size n e = rw (size-is (now (c .before .before .before .before .args .text)) (textOf (c .short-ending .result))) (omega arith)
+  size : (n : ℕ) → n ≡ length (part shortPool (c .short-ending .result)) → length (now (c .before .before .before .before .args .text)) + 1 + n ≡ length said
+  size n e = rw (size-is (now (c .before .before .before .before .args .text)) (part shortPool (c .short-ending .result))) (omega arith)
 
 -- out holds it: it is measured, or every ending fits
 room : (c : tie.Joined1) → length (said (c .before)) ≤ length (now (c .before .before .before .before .before .args .out))
 room c =
     let l = c .before in
     ⊎-elim (λ w. omega (arith, size l (w .1 .result) (w .1 .ensures .0), w .2 .left))
-    (λ w. omega (arith, size l _ refl, text-short (l .short-ending .result), w .left)) (c .if1 .came)
+    (λ w. omega (arith, size l _ refl, part-short shortPool (l .short-ending .result), w .left)) (c .if1 .came)
 
 pub say-spec : {M : Type 1} → statement M
 say-spec =
     tie.close
-    (tie.spec (λ c κs. search needs) (λ c κs. search needs) (λ c. search needs) (λ c. search needs) (λ c. search needs) (λ c κs. search needs) (λ c. search needs)
+    (tie.spec (λ c κs. search needs) (λ c κs. search needs) (λ c. search needs) (λ c. search needs) (λ c κs. search needs) (λ c. search needs)
     (λ c. let l = c .before .before .before in
-    (heard _ _ _ (is-said l) (too-long (now (c .before .before .before .before .before .before .before .args .out)) (said l) _ (size l _ (c .before .len .ensures .0)) (c .if2 .taken)), omega (arith, l .before .before .before .before .pre .3, c .before .len .ensures .1)))
+    (heard _ _ _ (is-said l) (too-long (now (c .before .before .before .before .before .before .before .args .out)) (said l) _ (size l _ (c .before .short-len .ensures .0)) (c .if2 .taken)), omega (arith, l .before .before .before .before .pre .3, c .before .short-len .ensures .1)))
     (λ c κs. room (c .before))
     (λ c. search needs)
     (λ c. let l = c .before .before .before .before .before in let p = c .before .before .put in
-    (heard _ _ _ (is-said l) (written (now (c .before .before .before .before .before .before .before .before .before .args .out)) (said l) _ (p .ensures .0) _ (omega (arith, room (c .before .before .before .before), p .ensures .0)) (p .ensures .1)), omega (arith, p .ensures .0, size l _ refl, text-short (l .short-ending .result), l .before .before .before .before .pre .3))))
+    (heard _ _ _ (is-said l) (written (now (c .before .before .before .before .before .before .before .before .before .args .out)) (said l) _ (p .ensures .0) _ (omega (arith, room (c .before .before .before .before), p .ensures .0)) (p .ensures .1)), omega (arith, p .ensures .0, size l _ refl, part-short shortPool (l .short-ending .result), l .before .before .before .before .pre .3))))

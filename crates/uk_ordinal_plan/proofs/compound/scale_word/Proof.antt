@@ -1,41 +1,38 @@
--- `uk_ordinal_plan::compound::scale_word` meets its contract: a lone 1 is not counted.
+-- `uk_ordinal_plan::compound::scale_word` meets its contract.
 -- Assumes nothing.
-use Prim.Native.Nat.{ℕ, _+_, _*_, _/_, _%_}
-use mathlib.Core.Path.{_≡_, refl, sym, ap, _∙_}
-use mathlib.Core.List.{[], _∷_}
-use native.Mathlib.Omega.{arith}
 use borrow.Author.Needs.{needs}
-use Rattle.words.specs.Text.{text}
+use Prim.Native.Nat.{_+_, _*_, _/_, _%_}
+use mathlib.Core.Path.{_≡_, sym, ap, _∙_}
+use mathlib.Core.List.{[], _∷_}
+use Rattle.words.specs.Part.{part}
+use Rattle.uk.specs.Pool.{ukPool}
 use Rattle.uk.specs.Rules.{numWords}
 use Rattle.uk_ordinal.specs.Ordinal.{compounds}
-use Rattle.uk_ordinal_plan.proofs.Laws.{run-then, run-word, respeak}
+use Rattle.uk_ordinal_plan.proofs.Laws.{respeak, run-then, run-word}
 use Rattle.uk_ordinal_plan.proofs.Cases.{num-some, bare-word, counted-word, joined-some}
+use native.Mathlib.Omega.{arith}
 use Rattle.uk_ordinal_plan.proofs.compound.scale_word.Statement.{statement}
 use Rattle.uk_ordinal_plan.proofs.compound.scale_word.Tie as tie
-
-returns : tie.Need-returns
-returns c =
-    let s = c .before .before .before .before .before .before .before .before .before in
-    respeak 6 (run-word (c .before .before .scale .ensures) (joined-some [] _ _)) (omega arith)
-    (ap (λ w. w ∷ []) (bare-word (text (s .args .ending)) (s .args .lone) (s .args .order) (s .args .g) (sym (c .before .before .before .before .before .before .is-bare .ensures) ∙ c .before .before .before .before .before .if1 .taken)))
-
-returns-2 : tie.Need-returns-2
-returns-2 c =
-    let s = c .before .before .before .before .before .before .before .before .before .before .before .before .before .before in
-    let g = s .args .g in
-    let e : 100 * (g / 100 % 10) + 10 * (g / 10 % 10) + g % 10 ≡ g = omega (arith, s .pre .3) in
-    respeak 6
-    (run-word (run-then 6 (c .before .before .before .before .before .before .before .count .ensures) (c .before .before .scale2 .ensures) (omega arith) (num-some compounds (g / 100 % 10) (g / 10 % 10) (g % 10) (omega (arith, s .pre .2))))
-    (joined-some (numWords compounds 0 (g / 100 % 10) (g / 10 % 10) (g % 10)) _ _)) (omega arith)
-    (ap (λ w. w ∷ []) (counted-word (text (s .args .ending)) (s .args .lone) (s .args .order) g (sym (c .before .before .before .before .before .before .before .before .before .before .before .is-bare .ensures) ∙ c .before .before .before .before .before .before .before .before .before .before .if1 .left)))
 
 pub scale-word-spec : {M : Type 1} → statement M
 scale-word-spec =
     tie.close
-    (tie.spec (λ c κs. search needs) (λ c κs. search needs) (λ c. search needs)
-    (λ c κs. let s = c .before .before .before .before .before .before in (c .before .before .before .before .column .ensures, s .pre .0, s .pre .1, omega (arith, s .pre .4)))
-    (λ c. search needs) returns (λ c. search needs)
-    (λ c κs. let s = c .before .before .before .before .before .before in (c .before .before .before .before .column .ensures, omega arith, omega arith, omega arith, omega (arith, s .pre .4)))
+    (tie.spec
+    (λ c κs. search needs)
+    (λ c κs. let s = c .before .before .before .before in (s .pre .0, s .pre .1, omega (arith, s .pre .4)))
     (λ c. search needs)
-    (λ c κs. let s = c .before .before .before .before .before .before .before .before .before .before .before in (c .before .before .before .before .before .before .before .before .before .column .ensures, s .pre .0, s .pre .1, omega (arith, s .pre .4, c .before .before .before .before .count .ensures .said .added .near, c .before .before .before .before .count .kept .1 .1 .1 .1 .0)))
-    (λ c. search needs) returns-2)
+    (λ c.
+    let a = c .before .before .before .before .before .before .before .args in
+    respeak 6 (run-word (c .before .before .scale .ensures) (joined-some [] _ _)) (omega arith)
+    (ap (λ w. w ∷ []) (bare-word (part ukPool (a .ending)) (a .lone) (a .order) (a .g) (sym (c .before .before .before .before .before .is-bare .ensures) ∙ c .before .before .before .before .if1 .taken))))
+    (λ c κs. let s = c .before .before .before .before in (omega arith, omega arith, omega arith, omega (arith, s .pre .4)))
+    (λ c κs. let s = c .before .before .before .before .before .before .before .before in (s .pre .0, s .pre .1, omega (arith, s .pre .4, c .before .before .before .count .ensures .said .added .near, c .before .before .before .count .kept .1 .1 .1 .0)))
+    (λ c. search needs)
+    (λ c.
+    let s = c .before .before .before .before .before .before .before .before .before .before .before in
+    let g = s .args .g in
+    let e : 100 * (g / 100 % 10) + 10 * (g / 10 % 10) + g % 10 ≡ g = omega (arith, s .pre .3) in
+    respeak 6
+    (run-word (run-then 6 (c .before .before .before .before .before .before .count .ensures) (c .before .before .scale2 .ensures) (omega arith) (num-some compounds (g / 100 % 10) (g / 10 % 10) (g % 10) (omega (arith, s .pre .2))))
+    (joined-some (numWords compounds 0 (g / 100 % 10) (g / 10 % 10) (g % 10)) _ _)) (omega arith)
+    (ap (λ w. w ∷ []) (counted-word (part ukPool (s .args .ending)) (s .args .lone) (s .args .order) g (sym (c .before .before .before .before .before .before .before .before .before .is-bare .ensures) ∙ c .before .before .before .before .before .before .before .before .if1 .left)))))

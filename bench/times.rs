@@ -1,0 +1,87 @@
+//! Takes the times: the shortest of many, as whatever else the machine does only makes one longer.
+
+use crate::inputs::Input;
+use crate::{bench_pass, library, subjects, Case, Room, Subject};
+use std::time::{Duration, Instant};
+
+/// All cases are gone over so often: what disturbs one sweep for seconds may leave another alone.
+const SWEEPS: usize = 10;
+/// In a sweep the subjects of a case take so many turns.
+const ROUNDS: usize = 20;
+/// A turn takes about as long: less than what another process gets at a time.
+const TURN: Duration = Duration::from_micros(500);
+
+/// What a pass over a case's inputs takes at best, in nanoseconds; 0 for what is not measured.
+#[derive(Clone, Copy, Default)]
+pub struct Times {
+    pub ours: f64,
+    pub copy: f64,
+    pub plain: f64,
+    pub rust: f64,
+    /// The spelling of the figures that a reading case reads.
+    pub spelling: f64,
+}
+
+/// A subject with the best time so far.
+struct Timed {
+    subject: Subject,
+    passes: u32,
+    best: f64,
+}
+
+impl Timed {
+    fn new(inputs: &[Input], subject: Subject) -> Self {
+        let once = time(inputs, &subject, 3) / 3;
+        let passes = (TURN.as_nanos() / once.as_nanos().max(1)).clamp(1, 10_000) as u32;
+        Timed { subject, passes, best: f64::INFINITY }
+    }
+
+    fn turn(&mut self, inputs: &[Input]) {
+        let time = time(inputs, &self.subject, self.passes).as_nanos() as f64;
+        self.best = self.best.min(time / f64::from(self.passes));
+    }
+}
+
+/// The times of each case.
+pub fn times(cases: &[Case]) -> Vec<Times> {
+    let mut timed: Vec<Vec<Timed>> = cases.iter().map(subjects_of).collect();
+    for _ in 0..SWEEPS {
+        for (case, subjects) in cases.iter().zip(&mut timed) {
+            for _ in 0..ROUNDS {
+                subjects.iter_mut().for_each(|subject| subject.turn(&case.inputs));
+            }
+        }
+    }
+    cases.iter().zip(timed).map(|(case, subjects)| named(case, &subjects)).collect()
+}
+
+/// What takes turns in a case; `named` knows the order.
+fn subjects_of(case: &Case) -> Vec<Timed> {
+    let ours = library(case.kind, case.reading).expect("a case has a call");
+    let mut all = vec![ours, subjects::copy()];
+    if case.reading {
+        all.push(subjects::spelling(case.kind));
+    } else {
+        all.extend([subjects::plain(case.kind), subjects::rust()]);
+    }
+    all.into_iter().map(|subject| Timed::new(&case.inputs, subject)).collect()
+}
+
+fn named(case: &Case, subjects: &[Timed]) -> Times {
+    let best: Vec<f64> = subjects.iter().map(|subject| subject.best).collect();
+    let times = Times { ours: best[0], copy: best[1], ..Times::default() };
+    if case.reading {
+        Times { spelling: best[2], ..times }
+    } else {
+        Times { plain: best[2], rust: best[3], ..times }
+    }
+}
+
+fn time(inputs: &[Input], subject: &Subject, passes: u32) -> Duration {
+    let Room(out) = &mut Room::new();
+    let start = Instant::now();
+    for _ in 0..passes {
+        std::hint::black_box(bench_pass(inputs, subject, out));
+    }
+    start.elapsed()
+}

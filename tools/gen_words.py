@@ -1,0 +1,253 @@
+#!/usr/bin/env python3
+"""gen_words.py [--check]: writes the code's pools of texts and its tables of places, from the tables of words in the specs.
+
+A pool is one byte string in which every text of a language stands somewhere, texts that overlap sharing their bytes; a text's place is half
+of where it starts, times 40, and its length. What is written is committed; --check compares instead, and fails where a file differs."""
+import re
+import sys
+
+import generated
+
+LONGER = 40  # than any text: words/src/lib.rt has the same number
+
+
+def spec(path):
+    return generated.committed('crates/' + path)
+
+
+def tables(path):
+    """Every definition of a file that is a text or a list of texts, as Python has them."""
+    found = {}
+    for name, body in re.findall(r'^(\w+) =\s*((?:[("\[].*\n?)(?:    .*\n?)*)', spec(path), re.M):
+        words = re.findall(r'"[^"]*"|\(|\)|∷|\[\]', body)
+        found[name] = listed(words)
+    return found
+
+
+def listed(words):
+    item = words.pop(0)
+    if item == '[]':
+        return []
+    if item == '(':
+        item = listed(words)
+        words.pop(0)
+    else:
+        item = item[1:-1]
+    if words and words[0] == '∷':
+        words.pop(0)
+        return [item] + listed(words)
+    return item
+
+
+def overlap(a, b):
+    """The most bytes at the end of a that b begins with, such that b starts at an even byte of a."""
+    for size in range(min(len(a), len(b)) - 1, 0, -1):
+        if (len(a) - size) % 2 == 0 and a.endswith(b[:size]):
+            return size
+    return 0
+
+
+def start_in(pool, text):
+    at = pool.find(text)
+    while at > 0 and at % 2 == 1:
+        at = pool.find(text, at + 1)
+    return at
+
+
+def pool_of(texts):
+    """A short byte string that has every text at an even byte: what is in another is left out, then those that overlap most are joined."""
+    left = []
+    for text in sorted({t.encode() for t in texts if t}, key=lambda t: (-len(t), t)):
+        if all(start_in(other, text) < 0 for other in left):
+            left.append(text)
+    shared = {(a, b): overlap(a, b) for a in left for b in left if a != b}
+    while shared:
+        (a, b), size = max(shared.items(), key=lambda item: (item[1], item[0]))
+        if size == 0:
+            break
+        joined = a + b[size:]
+        left = [t for t in left if t not in (a, b)]
+        shared = {p: n for p, n in shared.items() if a not in p and b not in p}
+        for t in left:
+            shared[t, joined], shared[joined, t] = overlap(t, joined), overlap(joined, t)
+        left.append(joined)
+    return b''.join(t if len(t) % 2 == 0 else t + b' ' for t in left)
+
+
+def flat(item):
+    return [item] if isinstance(item, str) else [text for part in item for text in flat(part)]
+
+
+class Pool:
+    """A pool of texts, and of plurals: texts of which a plural with `s` is wanted too, at the same place."""
+    def __init__(self, texts, common, plurals=()):
+        self.plurals = set(plurals)
+        wanted = [text + 's' if text in self.plurals else text for text in texts]
+        common = [text + 's' if text in self.plurals else text for text in common]
+        self.bytes = pool_of(common)
+        self.bytes += pool_of([text for text in wanted if start_in(self.bytes, text.encode()) < 0])
+
+    def place(self, text):
+        if text == '':
+            return 0
+        if text in self.plurals:
+            return self.place(text + 's') - 1
+        at, size = start_in(self.bytes, text.encode()), len(text.encode())
+        assert at >= 0 and size < LONGER, text
+        return at // 2 * LONGER + size
+
+    def places(self, table):
+        return self.place(table) if isinstance(table, str) else [self.places(row) for row in table]
+
+
+def code_name(name):
+    """The Rust's name of a table, from that of the specs."""
+    return re.sub(r'(?<=[a-z0-9])(?=[A-Z])', '_', name).upper()
+
+
+def shape(table):
+    return 'u16' if isinstance(table, int) else '[%s; %d]' % (shape(table[0]), len(table))
+
+
+def literal(table, indent=''):
+    """A constant's value as the formatter sets it: a list on one line where it fits, else an item a line."""
+    if isinstance(table, int):
+        return str(table)
+    line = '[' + ', '.join(literal(row) for row in table) + ']'
+    if len(line) <= 62 and not isinstance(table[0], list):
+        return line
+    return '[\n' + ''.join('%s    %s,\n' % (indent, literal(row, indent + '    ')) for row in table) + indent + ']'
+
+
+def constants(head, tables):
+    out = head
+    for name, table in tables:
+        out += '\npub const %s: %s = %s;\n' % (code_name(name), shape(table), literal(table))
+    return out
+
+
+def listing(table):
+    if isinstance(table, int):
+        return str(table)
+    return '(' + ' ∷ '.join([listing(row) for row in table] + ['[]']) + ')'
+
+
+def depth(table):
+    return 'ℕ' if isinstance(table, int) else 'List ' + ('ℕ' if isinstance(table[0], int) else '(%s)' % depth(table[0]))
+
+
+def lists(head, tables):
+    out = head + '''-- Assumes nothing.
+use Prim.Native.Nat.{ℕ}
+use mathlib.Core.List.{List, [], _∷_}
+'''
+    for name, table in tables:
+        out += '\nabbrev pub %s : %s\n%s =\n' % (name, depth(table), name)
+        if isinstance(table, int):
+            out += '    %d\n' % table
+        else:
+            rows = [listing(row) for row in table]
+            per = 1 if isinstance(table[0], list) else 12
+            out += ''.join('    %s ∷\n' % ' ∷ '.join(rows[i:i + per]) for i in range(0, len(rows), per)) + '    []\n'
+    return out
+
+
+def pool_source(head, pool):
+    rows = [pool.bytes[i:i + 24] for i in range(0, len(pool.bytes), 24)]
+    text = '\\\n    '.join(''.join('\\x%02x' % b for b in row) for row in rows)
+    return '%s\npub const POOL: [u8; %d] =\n    *b"%s";\n' % (head, len(pool.bytes), text)
+
+
+def pool_spec(head, name, pool):
+    text = pool.bytes.decode()
+    rows = [text[i:i + 100] for i in range(0, len(text), 100)]
+    body = ' ++ ('.join('utf8 "%s"' % row for row in rows) + ')' * (len(rows) - 1)
+    body = body.replace(' ++ (', '\n    ++ (')
+    return '''%s
+-- Assumes nothing.
+use Prim.Native.Nat.{ℕ}
+use mathlib.Core.List.{List%s}
+use Rattle.base.specs.Utf8.{utf8}
+
+-- all of them, one over another
+unfoldable pub %s : List ℕ
+%s =
+    %s
+''' % (head, ', _++_' if len(rows) > 1 else '', name, name, body)
+
+
+UK = tables('uk/specs/UkTables.antt')
+ORDINAL = tables('uk_ordinal/specs/OrdinalTables.antt')
+SHORT = {name: table for name, table in ORDINAL.items() if name.endswith('Short')}
+NOUNS = tables('uk_money/specs/NounTables.antt')
+FR = tables('fr/specs/FrTables.antt')
+CLASSES = re.findall(r'^endings (\w+) = (\S+)$', spec('uk_money/specs/Nouns.antt'), re.M)
+CURRENCIES = re.findall(r'^    currency "\w+" \(([^)]*)\) \(([^)]*)\)', spec('uk_money/specs/Currencies.antt'), re.M)
+
+# texts that stand in no table of the specs
+UK_OTHERS = {'minus': 'мінус'}
+ORDINAL_OTHERS = {'adjectiveN': 'н', 'beforeEra': 'до', 'ourEra': 'н.е.'}
+FR_OTHERS = {'zero': 'zéro', 'moins': 'moins', 'une': 'une', 'et': 'et', 'quatreVingt': 'quatre-vingt',
+             'cent': 'cent', 'premier': 'premier', 'ieme': 'ième'}
+
+
+def fr_tables():
+    """The words that the French planner counts on: tens as every region has them; hundreds with their unit, by joiner; scale words. Those with a
+    plural stand for both: it is one byte longer."""
+    tens = ['', ''] + FR['tens'][1:6] + ['septante', 'huitante', 'nonante']
+    hundreds = [['', ''] + [unit + joiner + 'cent' for unit in FR['units'][1:]] for joiner in ' -']
+    return {'units': [''] + FR['units'], 'teens': FR['teens'], 'tens': tens, 'hundreds': hundreds, 'megas': [''] + FR['megas']}
+
+
+def name_row(text):
+    """The row of a unit's name: the places of its adjective's and its noun's stems, the noun's class and the gender."""
+    gender = int(text.startswith('feminine'))
+    words = re.findall(r'"([^"]*)" (\w+)', text)
+    adjective = UK_POOL.place(words[0][0]) if len(words) == 2 else 0
+    stem, kind = words[-1]
+    return [adjective, UK_POOL.place(stem), [name for name, _ in CLASSES].index(kind), gender]
+
+
+UK_TEXTS = (flat(list(UK.values())) + flat([table for name, table in ORDINAL.items() if name not in SHORT]) + flat(list(NOUNS.values()))
+            + list(UK_OTHERS.values()) + list(ORDINAL_OTHERS.values()) + re.findall(r'"([^"]*)"', ' '.join(map(' '.join, CURRENCIES))))
+# the words of everyday figures come first: what is written of a pool last is read back slowest, and short phrases would wait for it
+UK_POOL = Pool(UK_TEXTS, flat([table for name, table in UK.items() if name != 'megaBases']))
+SHORT_POOL = Pool(flat(list(SHORT.values())), [])
+FR_WORDS = fr_tables()
+FR_COMMON = flat([FR_WORDS[k] for k in ('units', 'teens', 'tens')]) + ['cent', 'mille', 'quatre-vingt', 'et', 'une', 'ième']
+FR_PLURALS = [text for text in flat(FR_WORDS['hundreds']) if text] + FR['megas'][1:] + ['quatre-vingt']
+FR_POOL = Pool(flat(list(FR_WORDS.values())) + list(FR_OTHERS.values()), FR_COMMON, FR_PLURALS)
+
+
+def placed(pool, *words):
+    return [(name, pool.places(table)) for group in words for name, table in group.items()]
+
+
+def money_tables():
+    forms = [[UK_POOL.place(NOUNS[table][n][c]) if table in NOUNS else 0 for n in range(2) for c in range(6)] for _, table in CLASSES]
+    return [('main', [name_row(a) for a, _ in CURRENCIES]), ('fraction', [name_row(b) for _, b in CURRENCIES]), ('endings', forms)]
+
+
+def outputs():
+    long_ordinal = {name: table for name, table in ORDINAL.items() if name not in SHORT}
+    kinds = [
+        ('uk', 'Ukrainian cardinals', placed(UK_POOL, UK, UK_OTHERS)),
+        ('uk_ordinal', 'Ukrainian ordinals and years', placed(UK_POOL, long_ordinal, ORDINAL_OTHERS) + placed(SHORT_POOL, SHORT)),
+        ('uk_money', 'the names of units of money', money_tables()),
+        ('fr', 'French', placed(FR_POOL, FR_WORDS, FR_OTHERS)),
+    ]
+    for crate, what, found in kinds:
+        yield '%s/src/places.rt' % crate, constants('// The places of the texts of %s, table by table. Made by tools/gen_words.py.\n' % what, found)
+        yield '%s/proofs/Listed.antt' % crate, lists("-- The code's tables of places as lists. Made by tools/gen_words.py.\n", found)
+    for crate, name, what, pool in [('uk', 'ukPool', 'The Ukrainian texts', UK_POOL), ('uk_ordinal', 'shortPool', 'The endings of digit ordinals', SHORT_POOL),
+                                    ('fr', 'frPool', 'The French texts', FR_POOL)]:
+        yield '%s/src/pool.rt' % crate, pool_source('// %s, those that overlap sharing their bytes. Made by tools/gen_words.py.' % what, pool)
+        yield '%s/specs/Pool.antt' % crate, pool_spec('-- %s, those that overlap sharing their bytes: it ties the code to the tables. Made by tools/gen_words.py.' % what, name, pool)
+
+
+def main():
+    generated.put({'crates/' + path: text for path, text in outputs()}, check='--check' in sys.argv)
+
+
+if __name__ == '__main__':
+    main()
