@@ -13,7 +13,7 @@ fn is_pointed(s: &[u8]) -> bool
 {
     if 3 <= s.len() {
         let i = s.len() - 3;
-        s[i] == 46
+        s[i] == b'.'
     } else {
         false
     }
@@ -50,7 +50,7 @@ fn is_hundredths(s: &[u8]) -> bool
     ensures { λ r. ⌜ r ≡ hundredths (now (s .entry)) ⌝ }
 {
     if all_digits(s) {
-        if s[0] == 48 { s[1] != 48 } else { true }
+        if s[0] == b'0' { s[1] != b'0' } else { true }
     } else {
         false
     }

@@ -27,10 +27,10 @@ fn front(s: &[u8], e: usize) -> u16
         return 0;
     }
     if e == 1 {
-        return three(48, 48, s[0]);
+        return three(b'0', b'0', s[0]);
     }
     if e == 2 {
-        return three(48, s[0], s[1]);
+        return three(b'0', s[0], s[1]);
     }
     three(s[0], s[1], s[2])
 }

@@ -23,6 +23,9 @@ fn height(g: &[u16]) -> usize
     if n == 0 { 1 } else { n }
 }
 
+// The byte of the digit 0, as wide as a group.
+const ZERO: u16 = 48;
+
 // How many digits a group has without leading zeros.
 fn group_size(x: u16) -> usize
     requires { ⌜ x < 1000 ⌝ }
@@ -53,17 +56,17 @@ fn put_digits(x: u16, k: usize, out: &mut [u8])
     ensures { λ _. ⌜ now (out .exit) ≡ over (now (out .entry)) (fixed k x) ⌝ }
 {
     if k == 1 {
-        out[0] = (48 + x % 10) as u8;
+        out[0] = (ZERO + x % 10) as u8;
         return;
     }
     if k == 2 {
-        out[0] = (48 + x / 10 % 10) as u8;
-        out[1] = (48 + x % 10) as u8;
+        out[0] = (ZERO + x / 10 % 10) as u8;
+        out[1] = (ZERO + x % 10) as u8;
         return;
     }
-    out[0] = (48 + x / 100) as u8;
-    out[1] = (48 + x / 10 % 10) as u8;
-    out[2] = (48 + x % 10) as u8;
+    out[0] = (ZERO + x / 100) as u8;
+    out[1] = (ZERO + x / 10 % 10) as u8;
+    out[2] = (ZERO + x % 10) as u8;
 }
 
 // Writes the o lowest groups of g, three digits each, from the highest down.
@@ -117,7 +120,7 @@ pub fn put_signed(minus: bool, g: &[u16], out: &mut [u8], w: usize)
     ensures { λ _. ⌜ now (out .exit) ≡ over (now (out .entry)) (signedText minus (total (now (g .entry)))) ⌝ }
 {
     if minus {
-        out[0] = 45;
+        out[0] = b'-';
         put_text(g, &mut out[1..], w - 1);
     } else {
         put_text(g, out, w);

@@ -25,14 +25,17 @@ pub fn money_size(g: &[u16], h: u32) -> usize
     }
 }
 
+// The byte of the digit 0, as wide as hundredths.
+const ZERO: u32 = 48;
+
 // Writes '.' and h hundredths.
 fn put_hundredths(h: u32, out: &mut [u8])
     requires { ⌜ (h < 100) × (3 ≤ length (now out)) ⌝ }
     ensures { λ _. ⌜ now (out .exit) ≡ over (now (out .entry)) (46 ∷ fixed 2 h) ⌝ }
 {
-    out[0] = 46;
-    out[1] = (48 + h / 10) as u8;
-    out[2] = (48 + h % 10) as u8;
+    out[0] = b'.';
+    out[1] = (ZERO + h / 10) as u8;
+    out[2] = (ZERO + h % 10) as u8;
 }
 
 // Writes that text, which is w bytes long.

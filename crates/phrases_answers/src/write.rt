@@ -20,7 +20,7 @@ pub fn refuse(n: u32, out: &mut [u8]) -> usize
     ensures { λ r. ⌜ Wrote (told n []) r (now (out .entry)) (now (out .exit)) ⌝ }
 {
     let mut line = *b"refused 0\n";
-    line[8] = 48 + (n as u8);
+    line[8] = b'0' + (n as u8);
     bytes::copy(&line, out)
 }
 
@@ -32,7 +32,7 @@ pub fn finish(a: Answer, out: &mut [u8]) -> usize
     let number = a.number;
     let length = a.length;
     if number == 0 {
-        out[length] = 10;
+        out[length] = b'\n';
         return length + 1;
     }
     refuse(number, out)

@@ -37,7 +37,7 @@ pub fn cut(s: &[u8]) -> Bounds
     ensures { λ r. ⌜ (r .end ≤ length (now (s .entry))) × (r .next ≤ length (now (s .entry))) ⌝ }
 {
     let n = s.len();
-    let end = bytes::scan::find(s, 0, n, 32);
+    let end = bytes::scan::find(s, 0, n, b' ');
     if end < n {
         return Bounds { end, next: end + 1 };
     }

@@ -8,13 +8,13 @@ ghost use Rattle.phrases_forms.specs.Line.{run, closed};
 fn is_free(b: u8) -> bool
     ensures { λ r. ⌜ r ≡ (not (eqb b 32) && (not (eqb b 40) && not (eqb b 41))) ⌝ }
 {
-    if b == 32 {
+    if b == b' ' {
         return false;
     }
-    if b == 40 {
+    if b == b'(' {
         return false;
     }
-    b != 41
+    b != b')'
 }
 
 // Whether s is one or more bytes other than space and bracket.
@@ -43,7 +43,7 @@ pub fn is_closed(s: &[u8]) -> bool
         return false;
     }
     let last = s.len() - 1;
-    if s[last] == 41 {
+    if s[last] == b')' {
         is_run(&s[..last])
     } else {
         false

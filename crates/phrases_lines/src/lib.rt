@@ -28,7 +28,7 @@ fn take_byte(b: u8, line: &mut [u8], held: usize, out: &mut [u8], used: usize) -
     ensures { λ r. ⌜ take used (now (out .exit)) ≡ take used (now (out .entry)) ⌝ }
     ensures { λ r. ⌜ Answered (take held (now (line .entry))) (b ∷ []) (drop used (take (r .used) (now (out .exit)))) (take (r .held) (now (line .exit))) ⌝ }
 {
-    if b == 10 {
+    if b == b'\n' {
         let w = phrases_answers::answer_line(&line[..held], &mut out[used..]);
         Turn {
             held: 0,

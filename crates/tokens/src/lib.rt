@@ -17,7 +17,7 @@ fn is_gap(b: u8) -> bool
     ensures { λ r. ⌜ r ≡ isGap b ⌝ }
 {
     if b < 46 {
-        if b == 32 { true } else { b == 45 }
+        if b == b' ' { true } else { b == b'-' }
     } else {
         false
     }
