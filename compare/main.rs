@@ -1,6 +1,6 @@
 //! Compares every answer of the library with the published Rust's, through the C calls.
 //!
-//! `compare` takes about two minutes, `compare full` much longer;
+//! `compare` takes about a minute, `compare full` much longer;
 //! `compare samples TABLE FOLDER` writes expected answers instead and asks no call.
 
 mod calls;
@@ -20,6 +20,7 @@ mod texts;
 use check::{Checker, Counts, Difference};
 use kinds::{Kind, Manner, KINDS};
 use random::Random;
+use std::thread;
 use std::time::Instant;
 
 /// How much is compared.
@@ -83,22 +84,29 @@ fn compare(size: &Size) {
     let seed = std::env::var("YOKEPEAR_SEED").ok().and_then(|s| s.parse().ok()).unwrap_or(1);
     println!("seed {seed}");
     let mut total = Counts::default();
-    for kind in KINDS {
-        let start = Instant::now();
-        match compare_kind(kind, size, seed) {
-            Ok(counts) => {
-                let seconds = start.elapsed().as_secs_f32();
-                println!("{}: {}, {seconds:.1} s", kind.name(), show(&counts));
-                add(&mut total, &counts);
-            }
-            Err(found) => {
-                report(found);
-                std::process::exit(1);
+    // The kinds share nothing, so that each has a thread; what they found is told in their order.
+    thread::scope(|scope| {
+        let running = KINDS.map(|kind| (kind, scope.spawn(move || timed(kind, size, seed))));
+        for (kind, thread) in running {
+            match thread.join().expect("a comparison that ends") {
+                (Ok(counts), seconds) => {
+                    println!("{}: {}, {seconds:.1} s", kind.name(), show(&counts));
+                    add(&mut total, &counts);
+                }
+                (Err(found), _) => {
+                    report(found);
+                    std::process::exit(1);
+                }
             }
         }
-    }
+    });
     println!("all: {}", show(&total));
     println!("no difference");
+}
+
+fn timed(kind: Kind, size: &Size, seed: u64) -> (Result<Counts, Difference>, f32) {
+    let start = Instant::now();
+    (compare_kind(kind, size, seed), start.elapsed().as_secs_f32())
 }
 
 fn compare_kind(kind: Kind, size: &Size, seed: u64) -> Result<Counts, Difference> {
