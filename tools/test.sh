@@ -36,8 +36,8 @@ gate() {
 step words python3 tools/gen_words.py --check || failed words
 step meanings python3 tools/gen_meanings.py --check || failed meanings
 step money python3 tools/gen_money.py --check || failed money
-# rt waits for all of a batch before it starts the next: with two to a processor a long check does not leave one idle (each takes up to 1.4 GB).
-export RT_JOBS=${RT_JOBS:-$((2 * $(nproc)))}
+# rt waits for all of a batch before it starts the next: with three to a processor a long check does not leave one idle (each takes up to 1.4 GB).
+export RT_JOBS=${RT_JOBS:-$((3 * $(nproc)))}
 gate
 step library rt staticlib yokepear || failed library
 step host host/test.sh || failed host
