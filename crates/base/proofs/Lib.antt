@@ -1,3 +1,4 @@
 pub mod Fronts
 pub mod Replies
 pub mod Same
+pub mod Numbers

@@ -1,4 +1,6 @@
-// What every crate shares: a call's answer, and casts.
+// What every crate shares: a call's answer, casts, and loads of several bytes.
+pub mod loads; // loads.rt: two, four and eight bytes at a time
+
 ghost use mathlib.Core.Path.{_≡_};
 ghost use Prim.Native.Nat.{_<_};
 

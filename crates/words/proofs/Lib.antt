@@ -1,4 +1,4 @@
-pub mod Numbers
+pub mod Stores
 pub mod Pieces
 pub mod Parts
 pub mod Tables

@@ -13,8 +13,9 @@ use Rattle.base.specs.Buffer.{over}
 use Rattle.base.specs.Decides.{Decides}
 use Rattle.base.specs.Front.{begins}
 use Rattle.base.proofs.Fronts.{begins-is, begins-own}
-use Rattle.words.specs.Moves.{num, lowBytes, seg, with}
-use Rattle.words.proofs.Numbers.{Bytes, digits-take, num-inj, bytes-take, bytes-drop}
+use Rattle.base.specs.Bytes.{num, lowBytes, Bytes}
+use Rattle.base.proofs.Numbers.{digits-take, num-inj, bytes-take, bytes-drop}
+use Rattle.words.specs.Moves.{seg, with}
 
 -- ys is xs with the first k bytes of t over it
 abbrev pub Upto : List ℕ → List ℕ → List ℕ → ℕ → Type 0

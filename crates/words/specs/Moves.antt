@@ -1,18 +1,8 @@
 -- Bytes moved and compared several at a time. No call's answer is defined by it.
 -- Assumes nothing.
-use Prim.Native.Nat.{ℕ, zero, suc, _+_, _*_, _/_, _%_}
-use mathlib.Core.List.{List, [], _∷_, _++_}
+use Prim.Native.Nat.{ℕ, _+_}
+use mathlib.Core.List.{List, _++_}
 use lib.ListN.{take, drop}
-
--- the number of some bytes, the first the lowest
-abbrev pub num : List ℕ → ℕ
-num [] = 0
-num (b ∷ bs) = b + num bs * 256
-
--- the k lowest bytes of a number
-abbrev pub lowBytes : ℕ → ℕ → List ℕ
-lowBytes zero w = []
-lowBytes (suc k) w = (w % 256) ∷ lowBytes k (w / 256)
 
 -- the k bytes of a text from j on
 abbrev pub seg : ℕ → ℕ → List ℕ → List ℕ

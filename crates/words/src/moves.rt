@@ -1,11 +1,14 @@
-// Two, four and eight bytes at a time: the compiler makes one load, and one store or comparison, of each.
-use base::wide;
+// Two, four and eight bytes at a time: the compiler makes one store, or one comparison, of each.
+use base::loads::get2;
+use base::loads::get4;
+use base::loads::get8;
 ghost use mathlib.Core.Path.{_≡_};
-ghost use Prim.Native.Nat.{_+_, _≤_, _<_};
+ghost use Prim.Native.Nat.{_+_, _≤_};
 ghost use mathlib.Core.List.{_++_};
 ghost use lib.ListN.{length, take, drop};
 ghost use Rattle.base.specs.Decides.{Decides};
-ghost use Rattle.words.specs.Moves.{num, lowBytes, seg, with};
+ghost use Rattle.base.specs.Bytes.{lowBytes};
+ghost use Rattle.words.specs.Moves.{seg, with};
 
 fn put2(w: u64, out: &mut [u8], at: usize)
     requires { ⌜ at + 2 ≤ length (now out) ⌝ }
@@ -29,27 +32,6 @@ fn put8(w: u64, out: &mut [u8], at: usize)
 {
     put4(w, out, at);
     put4(w / 4294967296, out, at + 4);
-}
-
-fn get2(s: &[u8], at: usize) -> u64
-    requires { ⌜ at + 2 ≤ length (now s) ⌝ }
-    ensures { λ r. ⌜ (r ≡ num (take 2 (drop at (now (s .entry))))) × (r < 65536) ⌝ }
-{
-    wide(s[at]) + wide(s[at + 1]) * 256
-}
-
-fn get4(s: &[u8], at: usize) -> u64
-    requires { ⌜ at + 4 ≤ length (now s) ⌝ }
-    ensures { λ r. ⌜ (r ≡ num (take 4 (drop at (now (s .entry))))) × (r < 4294967296) ⌝ }
-{
-    get2(s, at) + get2(s, at + 2) * 65536
-}
-
-fn get8(s: &[u8], at: usize) -> u64
-    requires { ⌜ at + 8 ≤ length (now s) ⌝ }
-    ensures { λ r. ⌜ r ≡ num (take 8 (drop at (now (s .entry)))) ⌝ }
-{
-    get4(s, at) + get4(s, at + 4) * 4294967296
 }
 
 // The bytes of w from `at` on are moved to the same place of out.

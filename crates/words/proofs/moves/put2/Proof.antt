@@ -3,7 +3,7 @@
 use borrow.Author.Needs.{needs}
 use native.Mathlib.Omega.{arith}
 use lib.ListN.{length-set}
-use Rattle.words.proofs.Numbers.{stored}
+use Rattle.words.proofs.Stores.{stored}
 use Rattle.words.proofs.moves.put2.Statement.{statement}
 use Rattle.words.proofs.moves.put2.Tie as tie
 

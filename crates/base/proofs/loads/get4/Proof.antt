@@ -1,10 +1,10 @@
--- `words::moves::get4` meets its contract.
+-- `base::loads::get4` meets its contract.
 -- Assumes nothing.
 use borrow.Author.Needs.{needs}
 use native.Mathlib.Omega.{arith}
-use Rattle.words.proofs.Numbers.{four-at}
-use Rattle.words.proofs.moves.get4.Statement.{statement}
-use Rattle.words.proofs.moves.get4.Tie as tie
+use Rattle.base.proofs.Numbers.{four-at}
+use Rattle.base.proofs.loads.get4.Statement.{statement}
+use Rattle.base.proofs.loads.get4.Tie as tie
 
 pub get4-spec : {M : Type 1} → statement M
 get4-spec =

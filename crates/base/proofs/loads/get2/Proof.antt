@@ -1,10 +1,10 @@
--- `words::moves::get2` meets its contract.
+-- `base::loads::get2` meets its contract.
 -- Assumes nothing.
 use borrow.Author.Needs.{needs}
 use native.Mathlib.Omega.{arith}
-use Rattle.words.proofs.Numbers.{two-at}
-use Rattle.words.proofs.moves.get2.Statement.{statement}
-use Rattle.words.proofs.moves.get2.Tie as tie
+use Rattle.base.proofs.Numbers.{two-at}
+use Rattle.base.proofs.loads.get2.Statement.{statement}
+use Rattle.base.proofs.loads.get2.Tie as tie
 
 pub get2-spec : {M : Type 1} → statement M
 get2-spec =

@@ -1,10 +1,10 @@
--- `words::moves::get8` meets its contract.
+-- `base::loads::get8` meets its contract.
 -- Assumes nothing.
 use borrow.Author.Needs.{needs}
 use native.Mathlib.Omega.{arith}
-use Rattle.words.proofs.Numbers.{eight-at}
-use Rattle.words.proofs.moves.get8.Statement.{statement}
-use Rattle.words.proofs.moves.get8.Tie as tie
+use Rattle.base.proofs.Numbers.{eight-at}
+use Rattle.base.proofs.loads.get8.Statement.{statement}
+use Rattle.base.proofs.loads.get8.Tie as tie
 
 pub get8-spec : {M : Type 1} → statement M
 get8-spec =
