@@ -11,41 +11,40 @@ import generated
 
 HERE = os.path.dirname(os.path.abspath(__file__))
 LANGUAGES = {'fr': 'French', 'uk': 'Ukrainian'}
-MULTIPLIER, KEYS = 371, 65536  # as in crates/tokens/specs/Tokens.antt
+KEYS, END = 823685, 62  # as in crates/tokens/specs/Tokens.antt
+UNIT = 1 << 20  # above every key: crates/meanings/specs/Lookup.antt has the same number
+PARTS = 64  # so many parts of the keys are moved apart
 # How many places a table has: at least two fifths of them are taken, so that the compiler makes a load of the match and no jump.
 SLOTS = {'fr': 256, 'uk': 512}
 ZEROS = {'fr': '', 'uk': " (zero's word closes a group of order 0)"}
 
 
 def key(word):
-    h = 0
-    for b in word.encode():
-        h = (h * MULTIPLIER + b) % KEYS
-    return h
+    return int.from_bytes(word.encode() + bytes([END]), 'little') % KEYS
 
 
-# How often a word is read: the words of an ordinal's end, and scale words, are left to the list.
-def rare(meaning, word):
-    return word.endswith('ième') * 10000 + meaning
-
-
-# the entries that have a place in the table, by their places; and the others, which found it taken
-def entries_of(language):
+# what each key means that means anything, with a word of it
+def meanings_of(language):
     meanings = {}
     for line in open(os.path.join(HERE, '%s_meanings.txt' % language), encoding='utf8'):
         meaning, *words = line.split()
         for word in words:
             known = meanings.setdefault(key(word), (int(meaning), word))
             assert known[0] == int(meaning), '%s and %s have one key' % (word, known[1])
-    placed, others = {}, []
-    for k in sorted(meanings, key=lambda k: (rare(*meanings[k]), k)):
-        meaning, word = meanings[k]
-        if not meaning:
-            continue
-        entry = (k, meaning, word)
-        if placed.setdefault(k % SLOTS[language], entry) != entry:
-            others.append(entry)
-    return [placed[slot] for slot in sorted(placed)], sorted(others)
+    return {k: known for k, known in meanings.items() if known[0]}
+
+
+# how far the keys of each part are moved, so that no two have one place: the largest part first, each as little as it can be
+def shifts_of(keys, slots):
+    parts = [[k for k in sorted(keys) if k // slots % PARTS == part] for part in range(PARTS)]
+    shifts, taken = [0] * PARTS, set()
+    for part in sorted(range(PARTS), key=lambda part: (-len(parts[part]), part)):
+        places = [{(k + shift) % slots for k in parts[part]} for shift in range(slots)]
+        fit = [shift for shift in range(slots) if len(places[shift]) == len(parts[part]) and not places[shift] & taken]
+        assert fit, 'the keys of a part have no places of their own: another END may do'
+        shifts[part] = fit[0]
+        taken |= places[fit[0]]
+    return shifts
 
 
 # lines of one list, with no break inside a pair
@@ -59,7 +58,11 @@ class Crate:
         self.name = language + '_meanings'
         self.files = {}
         self.slots = SLOTS[language]
-        self.placed, self.others = entries_of(language)
+        meanings = meanings_of(language)
+        shifts = shifts_of(meanings, self.slots)
+        self.shifts = list(enumerate(shifts))
+        place = {k: (k + shifts[k // self.slots % PARTS]) % self.slots for k in meanings}
+        self.table = [(place[k], *meanings[k], k) for k in sorted(meanings, key=place.get)]
 
     def write(self, path, text):
         self.files['crates/%s/%s' % (self.name, path)] = text
@@ -67,111 +70,130 @@ class Crate:
     def specs(self):
         lists = ''
         for name, said, entries in (
-            ('placed', 'the keys that have a place in the table, with what they mean', self.placed),
-            ('others', 'the keys that found their place taken', self.others),
+            ('shifts', 'by how much the keys of each of %d parts are moved, so that no two have one place' % PARTS, self.shifts),
+            ('table', 'at each place that is taken, %d times what its key means, and the key' % UNIT, [(p, m * UNIT + k) for p, m, w, k in self.table]),
         ):
-            row = ' ∷ '.join(['(%d, %d)' % (k, m) for k, m, w in reversed(entries)] + ['[]'])
+            row = ' ∷ '.join(['(%d, %d)' % entry for entry in reversed(entries)] + ['[]'])
             lists += '-- %s\nunfoldable pub %s : Entries\n%s =\n%s\n\n' % (said, name, name, filled(row))
         self.write('specs/Lib.antt', 'pub mod Meanings\n')
         self.write('specs/Meanings.antt', '''-- What the words of the %s numbers mean, by their keys: 1 to 999 a number,
 -- 1000 and more a scale word of that order%s, 2001 minus, 0 nothing.
 -- What a reader makes of these is held against the grammar's own words afterwards, so nothing here has to be believed.
 -- Assumes nothing.
-use Prim.Native.Nat.{ℕ}
-use mathlib.Core.List.{[], _∷_, _++_}
-use Rattle.meanings.specs.Lookup.{Entries, lookup}
+use Prim.Native.Nat.{ℕ, _+_, _/_, _%%_}
+use mathlib.Core.List.{[], _∷_}
+use Rattle.meanings.specs.Lookup.{Entries, lookup, meaningAt}
 
-%s-- the meaning of the word with this key
+%s-- a key's place
+abbrev pub placeOf : ℕ → ℕ
+placeOf key = (key %% %d + lookup (key / %d %% %d) shifts) %% %d
+
+-- the meaning of the word with this key
 unfoldable pub meaningOf : ℕ → ℕ
-meaningOf key = lookup key (placed ++ others)
-''' % (LANGUAGES[self.language], ZEROS[self.language], lists))
+meaningOf key = meaningAt key (lookup (placeOf key) table)
+''' % (LANGUAGES[self.language], ZEROS[self.language], lists, self.slots, self.slots, PARTS, self.slots))
 
-    # a match with an arm for each entry
-    def table(self, name, comment, uses, head, by, entries, said):
-        arms = ''.join('        %d => %s, // %s\n' % e for e in entries)
+    # a match with an arm for each entry of a list
+    def match(self, name, comment, head, by, arms):
         self.write('src/%s.rt' % name, '''// %s
 ghost use mathlib.Core.Path.{_≡_};
-ghost use Rattle.meanings.specs.Lookup.{%s};
+ghost use Rattle.meanings.specs.Lookup.{lookup};
 ghost use Rattle.%s.specs.Meanings.{%s as %sOf};
 
 pub fn %s
-    ensures { λ r. ⌜ r ≡ lookup %s ⌝ }
+    ensures { λ r. ⌜ r ≡ lookup %s %sOf ⌝ }
 {
     match %s {
 %s        _ => 0,
     }
 }
-''' % (comment, uses, self.name, name, name, head, said, by, arms))
+''' % (comment, self.name, name, name, head, by, name, by, ''.join('        %s\n' % arm for arm in arms)))
 
     def source(self):
-        comment = 'What stands at this place: 65536 times what its key means, and the key; or 0. So many places are taken that the compiler makes a load of the match.'
-        entries = [(k % self.slots, '0x%04x_%04x' % (m, k), '%s: %d' % (w, m)) for k, m, w in self.placed]
-        self.table('placed', comment, 'byPlace, lookup', 'entry_at(slot: u32) -> u32', 'slot', entries, 'slot (byPlace %d placedOf)' % self.slots)
-        comment = 'What a key means that found its place taken by another.'
-        self.table('others', comment, 'lookup', 'other(key: u32) -> u16', 'key', self.others, 'key othersOf')
+        comment = "By how much the keys of a part are moved. Of each match here the compiler makes a load."
+        self.match('shifts', comment, 'shift(part: u32) -> u16', 'part', ['%d => %d,' % entry for entry in self.shifts])
+        comment = 'What stands at a place: %d times what its key means, and the key; or 0.' % UNIT
+        arms = ['%d => 0x%04x_%04x, // %s: %d' % (p, (m * UNIT + k) >> 16, (m * UNIT + k) & 65535, w, m) for p, m, w, k in self.table]
+        self.match('table', comment, 'entry_at(place: u32) -> u32', 'place', arms)
         self.write('src/lib.rt', '''// What the words of the %s numbers mean, by their keys.
-mod others;
-mod placed;
+mod shifts;
+mod table;
 
 ghost use mathlib.Core.Path.{_≡_};
 ghost use Rattle.%s.specs.Meanings.{meaningOf};
+
+// How many places the table has, into how many parts the keys fall, and what is above every key.
+const SLOTS: u32 = %d;
+
+const PARTS: u32 = %d;
+
+const UNIT: u32 = %d;
 
 // The meaning of the word with this key.
 pub fn meaning(key: u32) -> u16
     ensures { λ r. ⌜ r ≡ meaningOf key ⌝ }
 {
-    let entry = placed::entry_at(key %% %d);
-    if entry %% 65536 == key {
-        return (entry / 65536) as u16;
+    let shift = shifts::shift(key / SLOTS %% PARTS) as u32;
+    let entry = table::entry_at((key %% SLOTS + shift) %% SLOTS);
+    if entry %% UNIT == key {
+        return (entry / UNIT) as u16;
     }
-    others::other(key)
+    0
 }
-''' % (LANGUAGES[self.language], self.name, self.slots))
+''' % (LANGUAGES[self.language], self.name, self.slots, PARTS, UNIT))
 
-    def proof(self, path, uses, body, comment):
+    def proof(self, path, uses, body, comment, laws=''):
         dotted = path.replace('/', '.')
         self.write('proofs/%s/Proof.antt' % path, '''-- `%s::%s` meets its contract: %s.
 -- Assumes nothing.
 %suse Rattle.%s.proofs.%s.Statement.{statement}
 use Rattle.%s.proofs.%s.Tie as tie
 
-pub %s-spec : {M : Type 1} → statement M
-%s''' % (self.name, path.replace('/', '::'), comment, uses, self.name, dotted, self.name, dotted, path.split('/')[-1].replace('_', '-'), body))
+%spub %s-spec : {M : Type 1} → statement M
+%s''' % (self.name, path.replace('/', '::'), comment, uses, self.name, dotted, self.name, dotted, laws, path.split('/')[-1].replace('_', '-'), body))
 
     # one answer for each arm: the law of an arm, at the arm's key
-    def arms(self, path, name, unfolded, table, count):
+    def arms(self, path, name, count):
         function = path.split('/')[-1].replace('_', '-')
-        answers = ['(λ c. found %s (c .match .keys%d) refl)' % (table, q) for q in range(1, count + 1)]
-        answers.append('(λ c. missed _ %s (c .match .rest))' % table)
+        answers = ['(λ c. found %s (c .match .keys%d) refl)' % (name, q) for q in range(1, count + 1)]
+        answers.append('(λ c. missed _ %s (c .match .rest))' % name)
         uses = '''use mathlib.Core.Path.{refl}
-use Rattle.meanings.specs.Lookup.{%s}
+use Rattle.meanings.specs.Lookup.{lookup}
 use Rattle.meanings.proofs.Arms.{found, missed}
 use Rattle.%s.specs.Meanings.{%s}
-''' % (', '.join(unfolded), self.name, name)
-        body = 'unfolding %s %s\n%s-spec =\n    tie.close\n    (tie.spec\n    %s)\n' % (' '.join(unfolded), name, function, '\n    '.join(answers))
+''' % (self.name, name)
+        body = 'unfolding lookup %s\n%s-spec =\n    tie.close\n    (tie.spec\n    %s)\n' % (name, function, '\n    '.join(answers))
         self.proof(path, uses, body, 'in the arm of a number stands its entry')
 
     def proofs(self):
         self.write('proofs/Lib.antt', '')
-        self.arms('placed/entry_at', 'placed', ('byPlace', 'lookup'), '(byPlace %d placed)' % self.slots, len(self.placed))
-        self.arms('others/other', 'others', ('lookup',), 'others', len(self.others))
-        uses = '''use mathlib.Core.Path.{refl}
-use borrow.Author.Needs.{needs}
+        self.arms('shifts/shift', 'shifts', len(self.shifts))
+        self.arms('table/entry_at', 'table', len(self.table))
+        uses = '''use borrow.Author.Needs.{needs}
+use Prim.Native.Nat.{ℕ, _+_, _%%_}
+use mathlib.Core.Path.{_≡_, ap, _∙_}
 use Rattle.meanings.specs.Lookup.{lookup}
-use Rattle.meanings.proofs.Places as places
-use Rattle.%s.specs.Meanings.{placed, others, meaningOf}
+use Rattle.meanings.proofs.Places.{here, elsewhere}
+use Rattle.%s.specs.Meanings.{table, placeOf, meaningOf}
 ''' % self.name
-        body = '''unfolding lookup placed others meaningOf
+        laws = '''-- what stands at the key's place
+at : (c : tie.After-entry-at) → c .entry-at .result ≡ lookup (placeOf (c .before .before .args .key)) table
+at c = let k = c .before .before .args .key in c .entry-at .ensures ∙ ap (λ (n : ℕ). lookup ((k %% %d + n) %% %d) table) (c .before .shift .ensures)
+
+''' % (self.slots, self.slots)
+        body = '''unfolding meaningOf
 meaning-spec =
     tie.close
     (tie.spec
     (λ c κs. search needs)
     (λ c. search needs)
-    (λ c. places.placed %d _ others placed refl (c .before .entry-at .ensures) refl (c .if1 .taken))
+    (λ c. search needs)
     (λ c κs. search needs)
-    (λ c. places.elsewhere %d _ others placed refl (c .before .before .entry-at .ensures) (c .before .if1 .left) (c .other .ensures)))
-''' % (self.slots, self.slots)
-        self.proof('meaning', uses, body, 'a key is found at its place, or among the others')
+    (λ c. search needs)
+    (λ c. here (at (c .before)) (c .if1 .taken))
+    (λ c. elsewhere (at (c .before)) (c .if1 .left)))
+'''
+        self.proof('meaning', uses, body, 'a key is found at its place, or has no meaning', laws)
 
     def generate(self):
         self.specs()

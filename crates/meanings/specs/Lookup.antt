@@ -1,6 +1,6 @@
 -- A number looked up by a key.
 -- Assumes nothing.
-use Prim.Native.Nat.{ℕ, _+_, _*_, _%_}
+use Prim.Native.Nat.{ℕ, _/_, _%_}
 use mathlib.Core.Bool.{cond}
 use mathlib.Core.List.{List, [], _∷_}
 use lib.Dec.{eqb}
@@ -14,7 +14,6 @@ unfoldable pub lookup : ℕ → Entries → ℕ
 lookup key [] = 0
 lookup key (e ∷ es) = cond (eqb key (e .0)) (e .1) (lookup key es)
 
--- the same entries for a table: a key's place is its remainder by the number of slots, and there stand what it stands for and the key, in one number
-unfoldable pub byPlace : ℕ → Entries → Entries
-byPlace slots [] = []
-byPlace slots (e ∷ es) = (e .0 % slots, e .1 * 65536 + e .0) ∷ byPlace slots es
+-- what a key means whose place has the number e: below 1048576 stands the key that the place belongs to, above it what that key means
+abbrev pub meaningAt : ℕ → ℕ → ℕ
+meaningAt key e = cond (eqb (e % 1048576) key) (e / 1048576) 0

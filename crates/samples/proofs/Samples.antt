@@ -11,9 +11,9 @@ use Rattle.base.specs.Answer.{Reply, refused, bytes}
 use Rattle.base.specs.Join.{joined}
 use Rattle.base.specs.Same.{sameText}
 use Rattle.base.proofs.Same.{same-not}
-use Rattle.tokens.specs.Tokens.{firstWord, afterWord, split, keyFrom}
+use Rattle.tokens.specs.Tokens.{firstWord, afterWord, split, whole, key}
 use Rattle.meanings.specs.Lookup.{lookup}
-use Rattle.uk_meanings.specs.Meanings.{placed, others, meaningOf}
+use Rattle.uk_meanings.specs.Meanings.{shifts, table, meaningOf}
 use Rattle.figures.specs.Groups.{groupsOf, total}
 use Rattle.uk.specs.UkTables.{zeros, gendered, units, teensBases, teensFlexions, tens, hundreds, thousandFlexions, megaBases, megaFlexions}
 use Rattle.uk.specs.Ukrainian.{unitForm, teenForm, scaleEnding, nounForm, ukrainian}
@@ -54,15 +54,15 @@ abbrev twoThousand : List ℕ
 twoThousand = utf8 "два тисячі"
 
 unsigned-two : signed (split twoThousand) ≡ false
-unfolding firstWord afterWord split keyFrom lookup placed others meaningOf taken sums
+unfolding firstWord afterWord split whole key lookup shifts table meaningOf taken sums
 unsigned-two = refl
 
 unsigned-words : unsigned (split twoThousand) ≡ split twoThousand
-unfolding firstWord afterWord split keyFrom lookup placed others meaningOf
+unfolding firstWord afterWord split whole key lookup shifts table meaningOf
 unsigned-words = refl
 
 taken-two : taken 0 (split twoThousand) ≡ closed 2 1 []
-unfolding firstWord afterWord split keyFrom lookup placed others meaningOf taken
+unfolding firstWord afterWord split whole key lookup shifts table meaningOf taken
 taken-two = refl
 
 -- no group above order 1

@@ -3,195 +3,22 @@
 use Prim.Native.Nat.{ℕ, zero, suc, _+_, _-_, _*_, _/_, _%_, _^_, _<_, _≤_}
 use mathlib.Core.Path.{_≡_, refl, sym, ap, ap₂, _∙_}
 use mathlib.Core.Bool.{Bool, true, false, cond}
-use mathlib.Core.List.{List, [], _∷_, _++_}
+use mathlib.Core.List.{List, [], _∷_}
 use native.Mathlib.Omega.{arith}
-use native.Mathlib.Nat.{mul-assoc, mul-add, mul-left-comm, mul-le-mul-left, add-mul-mod-self-left, mod-eq-of-lt, suc-add, zero-add, pow-succ'}
+use native.Mathlib.Nat.{mul-assoc, zero-add, add-mul-mod-self-left}
 use native.Mathlib.Numerals.{add-one}
-use borrow.Author.Tests.{ne-eqb, ltb-false, eqb-true}
+use borrow.Author.Tests.{eqb-true, ltb-true, ltb-false}
 use lib.Bits.{bitAnd, bitOr, or-block, and-block, or-lt, and-le-r, and-zero-r}
 use lib.Count.{trailingZeros}
 use lib.Dec.{eqb, ltb}
-use lib.ListN.{length, getD, take, drop, length-drop}
-use lib.Pow.{field, mod-mod-pow, shl-exact}
-use lib.Seq.{drop-drop, drop-cons, take-add, take-take}
-use Rattle.base.specs.Join.{Word}
+use lib.ListN.{length, getD, take, drop, length-drop, drop-of-length-le}
+use lib.Pow.{pow-pos, pow-mono, pow-add, mod-pow-add, shl-exact}
+use lib.Seq.{drop-drop, drop-cons, take-all}
+use Rattle.base.specs.Bytes.{num, Bytes}
+use Rattle.base.proofs.Numbers.{bytes-drop}
 use Rattle.tables.proofs.Tests.{all-at}
-use Rattle.tokens.specs.Tokens.{isGap, firstWord, afterWord, keyFrom, Begun}
-use Rattle.tokens.specs.Turns.{bytes, halfBytes, lows, Loaded, Undoes, Ends}
-
--- bytes behind bytes
-upper : (a x : ℕ) → ((a + 256 * x) % 256 ≡ a % 256) × ((a + 256 * x) / 256 ≡ a / 256 + x)
-upper a x = (omega arith, omega arith)
-
-pub bytes-more : (n m a b : ℕ) → a < 256 ^ n → bytes (n + m) (a + 256 ^ n * b) ≡ bytes n a ++ bytes m b
-unfolding bytes
-bytes-more zero m a b h = let z : a + 1 * b ≡ b = omega arith in rw (zero-add m, z) refl
-bytes-more (suc n) m a b h =
-    let x = 256 ^ n * b in
-    let e : 256 ^ suc n * b ≡ 256 * x = rw (pow-succ' 256 n) (mul-assoc 256 (256 ^ n) b) in
-    let u = upper a x in
-    let l : a / 256 < 256 ^ n = omega (arith, pow-succ' 256 n) in
-    rw (suc-add n m, e, u .0, u .1) (ap (λ (r : Word). (a % 256) ∷ r) (bytes-more n m (a / 256) b l))
-
-pub byte-pair : (a b : ℕ) → a < 256 → b < 256 → bytes 2 (a + 256 * b) ≡ a ∷ b ∷ []
-unfolding bytes
-byte-pair a b h l =
-    let x : (a + 256 * b) % 256 ≡ a = omega arith in
-    let y : (a + 256 * b) / 256 ≡ b = omega arith in
-    let z : b % 256 ≡ b = omega arith in
-    rw (x, y, z) refl
-
-pub bytes-take : (p n w : ℕ) → p ≤ n → take p (bytes n w) ≡ bytes p w
-unfolding bytes
-bytes-take zero n w h = refl
-bytes-take (suc p) zero w h = absurd (omega arith)
-bytes-take (suc p) (suc n) w h = ap (λ (r : Word). (w % 256) ∷ r) (bytes-take p n (w / 256) (omega arith))
-
--- the bytes below a bit, and zeros behind them
-pub bytes-cut : (p q w : ℕ) → bytes (p + q) (w % 2 ^ (p * 8)) ≡ bytes p w ++ bytes q 0
-unfolding bytes
-bytes-cut zero q w = let z : w % 1 ≡ 0 = omega arith in rw (zero-add q, z) refl
-bytes-cut (suc p) q w =
-    let e : suc p * 8 ≡ p * 8 + 8 = omega arith in
-    rw (suc-add p q, e, mod-mod-pow w (p * 8) 8, field w (p * 8) 8) (ap (λ (r : Word). (w % 256) ∷ r) (bytes-cut p q (w / 256)))
-
--- two bytes of a text, and some behind some
-pub two-hold : (s : List ℕ) (i a b : ℕ) → i + 2 ≤ length s → a ≡ getD s i 0 → b ≡ getD s (i + 1) 0 → a < 256 → b < 256 → Loaded s i 2 (a + 256 * b)
-two-hold s i a b h e f l m =
-    let x = drop-cons s i 0 (omega arith) in
-    let y = drop-cons s (suc i) 0 (omega arith) in
-    let t : take 2 (drop i s) ≡ getD s i 0 ∷ getD s (suc i) 0 ∷ [] = rw (x, y) refl in
-    record { small = omega arith; are = byte-pair a b l m ∙ rw (t, e, f, add-one i) refl }
-
-pub more-are : (s : List ℕ) (i n m a b : ℕ) → Loaded s i n a → Loaded s (i + n) m b → bytes (n + m) (a + 256 ^ n * b) ≡ take (n + m) (drop i s)
-more-are s i n m a b p q = bytes-more n m a b (p .small) ∙ rw (p .are, q .are, take-add n m (drop i s), drop-drop n i s) refl
-
--- keys
-pub key-small : (h : ℕ) (l : Word) → h < 65536 → keyFrom h l < 65536
-unfolding keyFrom
-key-small h [] e = e
-key-small h (b ∷ l) e = key-small ((h * 371 + b) % 65536) l (omega arith)
-
-pub key-append : (h : ℕ) (u v : Word) → keyFrom h (u ++ v) ≡ keyFrom (keyFrom h u) v
-unfolding keyFrom
-key-append h [] v = refl
-key-append h (b ∷ u) v = key-append ((h * 371 + b) % 65536) u v
-
--- numbers apart by so many times 65536
-apart : (x y a b : ℕ) → x + 65536 * a ≡ y + 65536 * b → x % 65536 ≡ y % 65536
-apart x y a b e = sym (add-mul-mod-self-left x 65536 a) ∙ ap (λ (n : ℕ). n % 65536) e ∙ add-mul-mod-self-left y 65536 b
-
--- four bytes more, and eight
-four-more : (h a b c d : ℕ) → keyFrom h (a ∷ b ∷ c ∷ d ∷ []) ≡ (h * 29073 + (12267 * a + 6569 * b + 371 * c + d)) % 65536
-unfolding keyFrom
-four-more h a b c d =
-    let k = h * 371 + a in
-    let m = k % 65536 * 371 + b in
-    let n = m % 65536 * 371 + c in
-    apart (n % 65536 * 371 + d) (h * 29073 + (12267 * a + 6569 * b + 371 * c + d)) (k / 65536 * 51064811 + m / 65536 * 137641 + n / 65536 * 371) (h * 289078 + a * 779 + b * 2) (omega arith)
-
-eight-more : (h f g : ℕ) → ((h * 29073 + f) % 65536 * 29073 + g) % 65536 ≡ (h * 21537 % 65536 + f % 65536 * 29073 % 65536 + g) % 65536
-eight-more h f g =
-    let k = h * 29073 + f in
-    apart (k % 65536 * 29073 + g) (h * 21537 % 65536 + f % 65536 * 29073 % 65536 + g) (k / 65536 * 29073) (h * 21537 / 65536 + h * 12897 + f % 65536 * 29073 / 65536 + f / 65536 * 29073) (omega arith)
-
-halved : (x f g : ℕ) → f < 4294967296 → x ≡ f + g * 4294967296 → (x % 65536 ≡ f % 65536) × (x / 4294967296 ≡ g)
-halved x f g l e = (omega arith, omega arith)
-
-fourth : (v : ℕ) → v / 4294967296 ≡ v / 256 / 256 / 256 / 256
-fourth v = omega arith
-
-both : (v : ℕ) → halfBytes v ≡ v % 256 + v / 256 / 256 / 256 / 256 % 256 * 4294967296
-unfolding halfBytes
-both v = rw (fourth v) refl
-
-mixed : (h x a b c d e f g i : ℕ) → a < 256 → b < 256 → c < 256 → d < 256
-    → x ≡ 12267 * (a + e * 4294967296) + 6569 * (b + f * 4294967296) + 371 * (c + g * 4294967296) + (d + i * 4294967296)
-    → (h * 21537 % 65536 + x % 65536 * 29073 % 65536 + x / 4294967296) % 65536 ≡ keyFrom h (a ∷ b ∷ c ∷ d ∷ e ∷ f ∷ g ∷ i ∷ [])
-mixed h x a b c d e f g i la lb lc ld q =
-    let u = 12267 * a + 6569 * b + 371 * c + d in
-    let v = 12267 * e + 6569 * f + 371 * g + i in
-    let z = halved x u v (omega arith) (omega arith) in
-    let k = keyFrom h (a ∷ b ∷ c ∷ d ∷ []) in
-    rw (z .0, z .1) (sym (key-append h (a ∷ b ∷ c ∷ d ∷ []) (e ∷ f ∷ g ∷ i ∷ []) ∙ four-more k e f g i ∙ ap (λ (n : ℕ). (n * 29073 + v) % 65536) (four-more h a b c d) ∙ eight-more h u v))
-
-pub fold-is : (h w x : ℕ) → x ≡ 12267 * halfBytes w + 6569 * halfBytes (w / 256) + 371 * halfBytes (w / 65536) + halfBytes (w / 16777216)
-    → (h * 21537 % 65536 + x % 65536 * 29073 % 65536 + x / 4294967296) % 65536 ≡ keyFrom h (bytes 8 w)
-unfolding bytes
-fold-is h w x e =
-    let y : w / 65536 ≡ w / 256 / 256 = omega arith in
-    let z : w / 16777216 ≡ w / 256 / 256 / 256 = omega arith in
-    mixed h x (w % 256) (w / 256 % 256) (w / 256 / 256 % 256) (w / 256 / 256 / 256 % 256) _ _ _ _ (omega arith) (omega arith) (omega arith) (omega arith)
-    (e ∙ rw (y, z, both w, both (w / 256), both (w / 256 / 256), both (w / 256 / 256 / 256)) refl)
-
--- zero bytes taken back
-back-one : (k x y z : ℕ) → k < 65536 → x % 65536 ≡ (k * 371 + 0) % 65536 → x * 3003 ≡ y + 65536 * z → y % 65536 ≡ k
-back-one k x y z l e f =
-    let a = x / 65536 in
-    let b = (k * 371 + 0) / 65536 in
-    apart y k (z + 3003 * b) (17 * k + 3003 * a) (omega arith) ∙ mod-eq-of-lt l
-
-abbrev pub Back : ℕ → ℕ → Type 0
-Back q r = (k : ℕ) → k < 65536 → keyFrom k (bytes q 0) * r % 65536 ≡ k
-
-back-more : (q r r′ t : ℕ) → r * 3003 ≡ r′ + 65536 * t → Back q r → Back (suc q) r′
-unfolding keyFrom bytes
-back-more q r r′ t e f k l =
-    let k′ = (k * 371 + 0) % 65536 in
-    let n = keyFrom k′ (bytes q 0) in
-    let g : n * r * 3003 ≡ n * r′ + 65536 * (n * t) = mul-assoc n r 3003 ∙ ap (λ (x : ℕ). n * x) e ∙ mul-add n r′ (65536 * t) ∙ ap (λ (x : ℕ). n * r′ + x) (mul-left-comm n 65536 t) in
-    back-one k (n * r) (n * r′) (n * t) l (f k′ (omega arith)) g
-
-back-0 : Back 0 1
-unfolding keyFrom bytes
-back-0 k l = omega arith
-
-pub back-1 : Back 1 3003
-back-1 = back-more 0 1 3003 0 refl back-0
-
-pub back-2 : Back 2 39577
-back-2 = back-more 1 3003 39577 137 refl back-1
-
-pub back-3 : Back 3 32963
-back-3 = back-more 2 39577 32963 1813 refl back-2
-
-pub back-4 : Back 4 28529
-back-4 = back-more 3 32963 28529 1510 refl back-3
-
-pub back-5 : Back 5 17035
-back-5 = back-more 4 28529 17035 1307 refl back-4
-
-pub back-6 : Back 6 38025
-back-6 = back-more 5 17035 38025 780 refl back-5
-
-pub back-7 : Back 7 25363
-back-7 = back-more 6 38025 25363 1742 refl back-6
-
-pub back-8 : Back 8 12257
-back-8 = back-more 7 25363 12257 1162 refl back-7
-
--- what is left below 8
-pub above : (n p : ℕ) → n ≤ p → (p ≡ n → ⊥) → n + 1 ≤ p
-above n p h e = omega arith
-
-pub positive : (p : ℕ) → (p ≡ 0 → ⊥) → 1 ≤ p
-positive p e = omega arith
-
-pub seven : (p : ℕ) → p < 8 → 7 ≤ p → p ≡ 7
-seven p l h = omega arith
-
--- so the key of the bytes below a bit is had from eight bytes
-pub below : (h w p r k : ℕ) → h < 65536 → p < 8 → Undoes p r → k ≡ keyFrom h (bytes 8 (w % 2 ^ (p * 8))) → k * r % 65536 ≡ keyFrom h (bytes p w)
-below h w p r k l m u e =
-    let z : p + (8 - p) ≡ 8 = omega arith in
-    let f : k ≡ keyFrom (keyFrom h (bytes p w)) (bytes (8 - p) 0) = e ∙ ap (keyFrom h) (rw z at (bytes-cut p (8 - p) w)) ∙ key-append h (bytes p w) (bytes (8 - p) 0) in
-    rw f (u .takes-back (keyFrom h (bytes p w)) (key-small h (bytes p w) l))
-
-pub shifted : (k : ℕ) → k < 64 → 1 * 2 ^ k % 18446744073709551616 ≡ 2 ^ k
-shifted k h = shl-exact 1 k 64 (omega arith) (omega arith) ∙ omega arith
-
-pub product-fits : (a b : ℕ) → a < 65536 → b < 65536 → a * b < 4294967296
-product-fits a b h l = let m : b ≤ 65535 = omega arith in omega (arith, mul-le-mul-left a m)
+use Rattle.tokens.specs.Tokens.{firstWord, afterWord, whole, key, Begun, Took}
+use Rattle.tokens.specs.Turns.{lows, letters, lastWhole, Ends}
 
 -- a byte below 64 is found
 abbrev mask : ℕ → ℕ
@@ -235,20 +62,6 @@ low-is (suc n) w = go (ltb (w % 256) 64) (seen n w) (low-is n (w / 256))
 pub low-eight : (w : ℕ) → 4629771061636907072 - bitAnd (bitOr w (w / 2)) 4629771061636907072 ≡ lows 8 w
 low-eight w = low-is 8 w
 
--- letters alone
-abbrev pub Clear : Word → Type 0
-Clear [] = Unit {0}
-Clear (b ∷ l) = (64 ≤ b) × Clear l
-
-pub all-clear : (n w : ℕ) → lows n w ≡ 0 → Clear (bytes n w)
-unfolding lows bytes
-all-clear zero w e = tt
-all-clear (suc n) w e = go (ltb (w % 256) 64) refl e (all-clear n (w / 256))
-  where
-    go : (t : Bool) → ltb (w % 256) 64 ≡ t → lows n (w / 256) * 256 + cond t 64 0 ≡ 0 → (lows n (w / 256) ≡ 0 → Clear (bytes n (w / 256))) → (64 ≤ w % 256) × Clear (bytes n (w / 256))
-    go true l e r = absurd (omega arith)
-    go false l e r = (ltb-false (w % 256) 64 l, r (omega arith))
-
 -- the lowest bit set
 even : (k n : ℕ) → trailingZeros (suc k) (n * 2) ≡ suc (trailingZeros k n)
 unfolding trailingZeros
@@ -276,54 +89,167 @@ none k n =
     let e : n * 256 + 0 ≡ n * 2 * 2 * 2 * 2 * 2 * 2 * 2 * 2 = omega arith in
     rw (e, even, even, even, even, even, even, even, even) refl
 
--- so many letters stand before a byte below 64
-pub record Before (z n w : ℕ) : Type 0 where
-  pub count : ℕ
-  pub bit : z ≡ count * 8 + 6
-  pub within : count < n
-  pub clear : Clear (bytes count w)
-
-pub before : (n w : ℕ) → (lows n w ≡ 0 → ⊥) → Before (trailingZeros (bits n) (lows n w)) n w
-unfolding lows bytes
-before zero w e = absurd (e refl)
-before (suc n) w e = go (ltb (w % 256) 64) refl e (before n (w / 256))
+-- it tells how many letters stand before the first byte below 64
+lowest : (n w : ℕ) → (lows n w ≡ 0 → ⊥) → (trailingZeros (bits n) (lows n w) ≡ letters n w * 8 + 6) × (letters n w < n)
+unfolding lows letters
+lowest zero w e = absurd (e refl)
+lowest (suc n) w e = go (ltb (w % 256) 64) e (lowest n (w / 256))
   where
-    go : (t : Bool) → ltb (w % 256) 64 ≡ t → (lows n (w / 256) * 256 + cond t 64 0 ≡ 0 → ⊥) → ((lows n (w / 256) ≡ 0 → ⊥) → Before (trailingZeros (bits n) (lows n (w / 256))) n (w / 256))
-        → Before (trailingZeros (bits (suc n)) (lows n (w / 256) * 256 + cond t 64 0)) (suc n) w
-    go true l e f = record { count = 0; bit = sixth n (lows n (w / 256)); within = omega arith; clear = tt }
-    go false l e f =
-        let r = f (λ z. e (omega arith)) in
-        let k : suc (r .count) * 8 + 6 ≡ 8 + (r .count * 8 + 6) = omega arith in
-        record { count = suc (r .count); bit = none n (lows n (w / 256)) ∙ omega (arith, r .bit, k); within = omega (arith, r .within); clear = (ltb-false (w % 256) 64 l, r .clear) }
+    v : ℕ
+    v = w / 256
 
--- the same of eight bytes, by the bit
+    go : (t : Bool) → (lows n v * 256 + cond t 64 0 ≡ 0 → ⊥) → ((lows n v ≡ 0 → ⊥) → (trailingZeros (bits n) (lows n v) ≡ letters n v * 8 + 6) × (letters n v < n))
+        → (trailingZeros (bits (suc n)) (lows n v * 256 + cond t 64 0) ≡ cond t 0 (suc (letters n v)) * 8 + 6) × (cond t 0 (suc (letters n v)) < suc n)
+    go true e f = (sixth n (lows n v), omega arith)
+    go false e f = let r = f (λ z. e (omega arith)) in (none n (lows n v) ∙ omega (arith, r .0), omega (arith, r .1))
+
 pub record Stops (z w : ℕ) : Type 0 where
-  pub small : z < 64
-  pub sixth-bit : z % 8 ≡ 6
-  pub clear : Clear (bytes (z / 8) w)
+  pub small : letters 8 w < 8
+  pub bit : z ≡ letters 8 w * 8 + 6
 
 pub stops : (w m : ℕ) → Ends w → m ≡ lows 8 w → Stops (trailingZeros 64 m) w
-stops w m e f =
-    let r = before 8 w e in
-    let q : trailingZeros 64 (lows 8 w) / 8 ≡ r .count = omega (arith, r .bit) in
-    rw f (record { small = omega (arith, r .bit, r .within); sixth-bit = omega (arith, r .bit); clear = rw q (r .clear) })
+stops w m e f = let r = lowest 8 w e in rw f (record { small = r .1; bit = r .0 })
 
--- a word goes on over letters
-letter : (b : ℕ) → 64 ≤ b → isGap b ≡ false
-letter b h = rw (ne-eqb b 32 (λ e. omega arith), ne-eqb b 45 (λ e. omega arith)) refl
+-- the bytes before it are those below this bit
+pub shifted : (z p : ℕ) → z ≡ p * 8 + 6 → p < 8 → (1 * 2 ^ (z - 6) % 18446744073709551616 ≡ 2 ^ (p * 8)) × (0 < 2 ^ (p * 8)) × (2 ^ (p * 8) ≤ 72057594037927936)
+shifted z p e l =
+    let q : z - 6 ≡ p * 8 = omega arith in
+    let x : 1 * 2 ^ (z - 6) % 18446744073709551616 ≡ 1 * 2 ^ (z - 6) = shl-exact 1 (z - 6) 64 (omega arith) (omega arith) in
+    (x ∙ rw q (omega arith), pow-pos (p * 8), pow-mono {i = p * 8} {j = 56} (omega arith))
 
-over : (l : List ℕ) (p h : ℕ) → p ≤ length l → Clear (take p l) → (keyFrom h (firstWord l) ≡ keyFrom (keyFrom h (take p l)) (firstWord (drop p l))) × (afterWord l ≡ afterWord (drop p l))
-unfolding keyFrom firstWord afterWord
-over l zero h e c = (refl, refl)
-over [] (suc p) h e c = absurd (omega arith)
-over (b ∷ l) (suc p) h e c = let r = over l p ((h * 371 + b) % 65536) (omega arith) (c .1) in rw (letter b (c .0)) r
+-- a byte, and the number of those behind it
+low-byte : (b x : ℕ) → b < 256 → ((b + x * 256) % 256 ≡ b) × ((b + x * 256) / 256 ≡ x)
+low-byte b x h = (omega arith, omega arith)
 
-module _ (s : List ℕ) (i h w : ℕ) (b : Begun s i h) (room : i + 8 ≤ length s) (t : Loaded s i 8 w) where
-  here : (p : ℕ) → p ≤ 8 → bytes p w ≡ take p (drop i s)
-  here p l = sym (bytes-take p 8 w l) ∙ ap (take p) (t .are) ∙ take-take p 8 (drop i s) l
+rest : (b : ℕ) (x : List ℕ) → Bytes (b ∷ x) → Bytes x
+rest b x h i = h (suc i)
 
-  pub begun-over : (p : ℕ) → p ≤ 8 → Clear (bytes p w) → Begun s (i + p) (keyFrom h (bytes p w))
-  begun-over p l c =
-      let e = here p l in
-      let o = over (drop i s) p h (omega (arith, length-drop i s)) (rw e at c) in
-      rw (e, sym (drop-drop p i s)) (b .0 ∙ o .0, b .1 ∙ o .1)
+-- n letters at the front of a text belong to its first word
+over : (n : ℕ) (x : List ℕ) → Bytes x → n ≤ length x → lows n (num (take n x)) ≡ 0
+    → (whole (firstWord x) ≡ num (take n x) + 2 ^ (n * 8) * whole (firstWord (drop n x))) × (afterWord x ≡ afterWord (drop n x))
+unfolding lows firstWord afterWord whole
+over zero x h l e = (omega arith, refl)
+over (suc n) [] h l e = absurd (omega arith)
+over (suc n) (b ∷ x) h l e =
+    let m = low-byte b (num (take n x)) (h 0) in
+    go (ltb b 64) (rw (m .0, m .1) at e) (over n x (rest b x h) (omega arith))
+  where
+    go : (t : Bool) → lows n (num (take n x)) * 256 + cond t 64 0 ≡ 0
+        → (lows n (num (take n x)) ≡ 0 → (whole (firstWord x) ≡ num (take n x) + 2 ^ (n * 8) * whole (firstWord (drop n x))) × (afterWord x ≡ afterWord (drop n x)))
+        → (whole (cond t [] (b ∷ firstWord x)) ≡ b + num (take n x) * 256 + 2 ^ (suc n * 8) * whole (firstWord (drop n x))) × (cond t x (afterWord x) ≡ afterWord (drop n x))
+    go true e f = absurd (omega arith)
+    go false e f =
+        let r = f (omega arith) in
+        let w = whole (firstWord (drop n x)) in
+        let q : suc n * 8 ≡ 8 + n * 8 = omega arith in
+        let g : 2 ^ (suc n * 8) * w ≡ 256 * (2 ^ (n * 8) * w) = rw (q, pow-add 2 8 (n * 8)) (mul-assoc 256 (2 ^ (n * 8)) w) in
+        (omega (arith, r .0, g), r .1)
+
+-- a byte below 64 among the first n, or the end of the text, ends its first word
+ended : (n : ℕ) (x : List ℕ) → Bytes x → (lows n (num (take n x)) ≡ 0 → ⊥)
+    → (whole (firstWord x) ≡ lastWhole (letters n (num (take n x))) (num (take n x))) × (afterWord x ≡ drop (suc (letters n (num (take n x)))) x) × (letters n (num (take n x)) ≤ length x)
+unfolding lows letters firstWord afterWord whole
+ended zero x h e = absurd (e refl)
+ended (suc n) [] h e = (refl, refl, omega arith)
+ended (suc n) (b ∷ x) h e =
+    let m = low-byte b (num (take n x)) (h 0) in
+    rw (m .0, m .1) (go (ltb b 64) (rw (m .0, m .1) at e) (ended n x (rest b x h)))
+  where
+    w : ℕ
+    w = num (take n x)
+
+    go : (t : Bool) → (lows n w * 256 + cond t 64 0 ≡ 0 → ⊥)
+        → ((lows n w ≡ 0 → ⊥) → (whole (firstWord x) ≡ lastWhole (letters n w) w) × (afterWord x ≡ drop (suc (letters n w)) x) × (letters n w ≤ length x))
+        → (whole (cond t [] (b ∷ firstWord x)) ≡ lastWhole (cond t 0 (suc (letters n w))) (b + w * 256))
+            × (cond t x (afterWord x) ≡ drop (suc (cond t 0 (suc (letters n w)))) (b ∷ x)) × (cond t 0 (suc (letters n w)) ≤ suc (length x))
+    go true e f = (omega arith, refl, omega arith)
+    go false e f =
+        let r = f (λ z. e (omega arith)) in
+        let p = letters n w in
+        let q : suc p * 8 ≡ p * 8 + 8 = omega arith in
+        let m = low-byte b w (h 0) in
+        let g : (b + w * 256) % 2 ^ (p * 8 + 8) ≡ w % 2 ^ (p * 8) * 256 + b = mod-pow-add (b + w * 256) (p * 8) 8 ∙ rw (m .0, m .1) refl in
+        let d : 2 ^ (p * 8 + 8) ≡ 2 ^ (p * 8) * 256 = pow-add 2 (p * 8) 8 in
+        (rw (q, g, d) (omega (arith, r .0)), r .1, omega (arith, r .2))
+
+-- fewer than n bytes leave a zero among n
+short : (n : ℕ) (x : List ℕ) → Bytes x → length x < n → lows n (num x) ≡ 0 → ⊥
+unfolding lows
+short zero x h l e = omega arith
+short (suc n) [] h l e = omega arith
+short (suc n) (b ∷ x) h l e = let m = low-byte b (num x) (h 0) in short n x (rest b x h) (omega arith) (go (ltb b 64) (rw (m .0, m .1) at e))
+  where
+    go : (t : Bool) → lows n (num x) * 256 + cond t 64 0 ≡ 0 → lows n (num x) ≡ 0
+    go t e = omega arith
+
+-- one more byte before others
+pub num-more : (s : List ℕ) (j b w : ℕ) → j < length s → b ≡ getD s j 0 → w ≡ num (drop (j + 1) s) → b + w * 256 ≡ num (drop j s)
+num-more s j b w h e f = rw (drop-cons s j 0 h, e, f, add-one j) refl
+
+num-small : (x : List ℕ) → Bytes x → num x < 2 ^ (length x * 8)
+num-small [] h = omega arith
+num-small (b ∷ x) h =
+    let q : suc (length x) * 8 ≡ length x * 8 + 8 = omega arith in
+    let g : 2 ^ (suc (length x) * 8) ≡ 2 ^ (length x * 8) * 256 = rw q (pow-add 2 (length x * 8) 8) in
+    omega (arith, g, num-small x (rest b x h), h 0)
+
+-- seven bytes leave room for one more
+pub num-room : (s : List ℕ) (j : ℕ) → Bytes s → length s < j + 8 → num (drop j s) < 72057594037927936
+num-room s j h l =
+    let m : length (drop j s) * 8 ≤ 56 = omega (arith, length-drop j s) in
+    omega (arith, num-small (drop j s) (bytes-drop j s h), pow-mono {i = length (drop j s) * 8} {j = 56} m)
+
+-- so many times eight bytes count what they are: 2 ^ 64 is 1 and so many times 823685
+apart : (x y a : ℕ) → x ≡ y + 823685 * a → x % 823685 ≡ y % 823685
+apart x y a e = ap (λ (n : ℕ). n % 823685) e ∙ add-mul-mod-self-left y 823685 a
+
+counted : (k w v : ℕ) → (k + (w + 18446744073709551616 * v)) % 823685 ≡ ((k + w % 823685) % 823685 + v) % 823685
+counted k w v =
+    apart (k + (w + 18446744073709551616 * v)) ((k + w % 823685) % 823685 + v) (w / 823685 + (k + w % 823685) / 823685 + 22395386675379 * v) (omega arith)
+
+-- before the first turn
+pub begun-none : (s : List ℕ) → Begun s 0 0
+unfolding key
+begun-none s = (ap (λ (n : ℕ). n % 823685) (sym (zero-add (whole (firstWord s)))), refl)
+
+-- the bytes that are left, where they are fewer than eight
+pub left : (s : List ℕ) (i w : ℕ) → length s < i + 8 → w ≡ num (drop i s) → w ≡ num (take 8 (drop i s))
+left s i w l e = e ∙ ap num (sym (take-all 8 (drop i s) (omega (arith, length-drop i s))))
+
+pub left-ends : (s : List ℕ) (i w : ℕ) → Bytes s → length s < i + 8 → i ≤ length s → w ≡ num (drop i s) → Ends w
+left-ends s i w h l m e z = short 8 (drop i s) (bytes-drop i s h) (omega (arith, length-drop i s)) (rw e at z)
+
+module _ (s : List ℕ) (h : Bytes s) (i k w : ℕ) (b : Begun s i k) (e : w ≡ num (take 8 (drop i s))) where
+  here : Bytes (drop i s)
+  here = bytes-drop i s h
+
+  -- a turn over eight letters
+  pub begun-on : i + 8 ≤ length s → lows 8 w ≡ 0 → Begun s (i + 8) ((k + w % 823685) % 823685)
+  begun-on l z =
+      let o = over 8 (drop i s) here (omega (arith, length-drop i s)) (rw e at z) in
+      let d = drop-drop 8 i s in
+      (b .0 ∙ ap (λ (n : ℕ). (k + n) % 823685) (o .0 ∙ rw (sym e, d) refl) ∙ counted k w (whole (firstWord (drop (i + 8) s))), b .1 ∙ o .1 ∙ ap afterWord d)
+
+  -- the last turn
+  pub within : Ends w → i ≤ length s → i + letters 8 w ≤ length s
+  within z l = let o = ended 8 (drop i s) here (rw e at z) in omega (arith, length-drop i s, rw (← e) at (o .2))
+
+  pub took : Ends w → i ≤ length s → (r n : ℕ) → r ≡ (k + lastWhole (letters 8 w) w) % 823685
+      → n ≡ cond (ltb (i + letters 8 w) (length s)) (i + letters 8 w + 1) (i + letters 8 w) → Took s r n
+  took z l r n f g =
+      let o = ended 8 (drop i s) here (rw e at z) in
+      let v : whole (firstWord (drop i s)) ≡ lastWhole (letters 8 w) w = o .0 ∙ rw (sym e) refl in
+      let a : afterWord s ≡ drop (i + suc (letters 8 w)) s = b .1 ∙ o .1 ∙ rw (sym e) (drop-drop (suc (letters 8 w)) i s) in
+      ((f ∙ ap (λ (m : ℕ). (k + m) % 823685) (sym v) ∙ sym (b .0), omega arith), go (ltb (i + letters 8 w) (length s)) refl g (within z l) a)
+    where
+      p : ℕ
+      p = letters 8 w
+
+      go : (t : Bool) → ltb (i + p) (length s) ≡ t → n ≡ cond t (i + p + 1) (i + p) → i + p ≤ length s → afterWord s ≡ drop (i + suc p) s
+          → (drop n s ≡ afterWord s) × (n ≤ length s) × (0 < length s → 0 < n)
+      go true t g u a =
+          let d : n ≡ i + suc p = omega arith in
+          (rw d (sym a), omega (arith, ltb-true (i + p) (length s) t), λ _. omega arith)
+      go false t g u a =
+          let c = ltb-false (i + p) (length s) t in
+          (drop-of-length-le s {i = n} (omega arith) ∙ sym (a ∙ drop-of-length-le s {i = i + suc p} (omega arith)), omega arith, λ z. omega arith)

@@ -1,17 +1,17 @@
--- A text taken word by word: words end at a space or a hyphen. What a reader makes of a text from these is held against the grammar's own
--- words afterwards, so nothing here has to be believed.
+-- A text taken word by word. What a reader makes of a text from these is held against the grammar's own words afterwards, so nothing here has to
+-- be believed.
 -- Assumes nothing.
 use Prim.Native.Nat.{ℕ, _+_, _*_, _%_, _<_, _≤_}
 use mathlib.Core.Path.{_≡_}
-use mathlib.Core.Bool.{Bool, cond, _||_}
+use mathlib.Core.Bool.{Bool, cond}
 use mathlib.Core.List.{List, [], _∷_}
-use lib.Dec.{eqb}
+use lib.Dec.{ltb}
 use lib.ListN.{length, drop}
 use Rattle.base.specs.Join.{Word}
 
--- a space or a hyphen
+-- words end at a space or a hyphen, or at any other byte below 64: no letter has one
 abbrev pub isGap : ℕ → Bool
-isGap b = eqb b 32 || eqb b 45
+isGap b = ltb b 64
 
 -- the first word of a text
 unfoldable pub firstWord : List ℕ → Word
@@ -33,19 +33,19 @@ unfoldable pub split : List ℕ → List Word
 split [] = []
 split (b ∷ s) = cond (isGap b) ([] ∷ split s) (toFirst b (split s))
 
--- a number below 65536 made of a word's bytes, from the number h on
-unfoldable pub keyFrom : ℕ → Word → ℕ
-keyFrom h [] = h
-keyFrom h (b ∷ w) = keyFrom ((h * 371 + b) % 65536) w
+-- a word's bytes as one number, the first the lowest, with 62 above the last
+unfoldable pub whole : Word → ℕ
+whole [] = 62
+whole (b ∷ w) = b + 256 * whole w
 
 -- the number by which a reader knows a word: no two number words of a language have one unless they mean the same
-abbrev pub key : Word → ℕ
-key w = keyFrom 0 w
+unfoldable pub key : Word → ℕ
+key w = whole w % 823685
 
--- no gap stands before i in the first word of s, and k is the key of what does
+-- no gap stands before i in the first word of s, and k is what its bytes there add to the key
 abbrev pub Begun : List ℕ → ℕ → ℕ → Type 0
-Begun s i k = (key (firstWord s) ≡ keyFrom k (firstWord (drop i s))) × (afterWord s ≡ afterWord (drop i s))
+Begun s i k = (key (firstWord s) ≡ (k + whole (firstWord (drop i s))) % 823685) × (afterWord s ≡ afterWord (drop i s))
 
 -- k is the key of the first word of s, and the next word starts at n
 abbrev pub Took : List ℕ → ℕ → ℕ → Type 0
-Took s k n = ((k ≡ key (firstWord s)) × (k < 65536)) × ((drop n s ≡ afterWord s) × (n ≤ length s) × (0 < length s → 0 < n))
+Took s k n = ((k ≡ key (firstWord s)) × (k < 823685)) × ((drop n s ≡ afterWord s) × (n ≤ length s) × (0 < length s → 0 < n))

@@ -1,10 +1,13 @@
 // A text taken word by word: the first word's key, and where the next word starts.
+use base::loads::get8;
 use base::wide;
 ghost use mathlib.Core.Path.{_≡_};
-ghost use Prim.Native.Nat.{_+_, _*_, _/_, _%_, _≤_, _<_};
+ghost use mathlib.Core.Bool.{cond};
+ghost use Prim.Native.Nat.{_+_, _≤_, _<_, _%_};
+ghost use lib.Dec.{ltb};
 ghost use lib.ListN.{length};
-ghost use Rattle.tokens.specs.Tokens.{isGap, keyFrom, Begun, Took};
-ghost use Rattle.tokens.specs.Turns.{bytes, halfBytes, lows, Loaded, Undoes, Ends};
+ghost use Rattle.tokens.specs.Tokens.{Begun, Took};
+ghost use Rattle.tokens.specs.Turns.{lows, letters, lastWhole, Ends};
 
 // The key of a text's first word, and how many bytes the word and the gap behind it have.
 pub struct Token {
@@ -12,69 +15,15 @@ pub struct Token {
     pub next: usize,
 }
 
-// Whether a byte is a space or a hyphen. Letters are above both, so that most bytes take one test.
-fn is_gap(b: u8) -> bool
-    ensures { λ r. ⌜ r ≡ isGap b ⌝ }
-{
-    if b < 46 {
-        if b == b' ' { true } else { b == b'-' }
-    } else {
-        false
-    }
-}
+// A key is what a word's bytes leave as one number, divided by this. It divides 2 ^ 64 less 1, so that eight bytes count the same wherever in a word
+// they stand; of the divisors that do, it gives number words keys of their own.
+const KEYS: u64 = 823685;
 
-// The key with one more byte.
-fn step(h: u32, b: u8) -> u32
-    requires { ⌜ h < 65536 ⌝ }
-    ensures { λ r. ⌜ (r ≡ (h * 371 + b) % 65536) × (r < 65536) ⌝ }
-{
-    (h * 371 + b as u32) % 65536
-}
+// What stands above the last byte, so that the length of a word counts: the least number with which no two words have one key.
+const END: u64 = 62;
 
-// The end of a text's first word, which has the key h before i: byte by byte.
-fn last(s: &[u8], i: usize, h: u32) -> Token
-    requires { ⌜ (i ≤ length (now s)) × (h < 65536) × Begun (now s) i h ⌝ }
-    ensures { λ r. ⌜ Took (now (s .entry)) (r .key) (r .next) ⌝ }
-{
-    let mut k = h;
-    let mut j = i;
-    while j < s.len() {
-        let b = s[j];
-        if is_gap(b) {
-            return Token {
-                key: k,
-                next: j + 1,
-            };
-        }
-        k = step(k, b);
-        j += 1;
-    }
-    Token { key: k, next: j }
-}
-
-// Two bytes from i on as one number, the first the lowest. The compiler makes one load of eight.
-fn two(s: &[u8], i: usize) -> u64
-    requires { ⌜ i + 2 ≤ length (now s) ⌝ }
-    ensures { λ r. ⌜ Loaded (now (s .entry)) i 2 r ⌝ }
-{
-    wide(s[i]) + 256 * wide(s[i + 1])
-}
-
-// Four bytes.
-fn four(s: &[u8], i: usize) -> u64
-    requires { ⌜ i + 4 ≤ length (now s) ⌝ }
-    ensures { λ r. ⌜ Loaded (now (s .entry)) i 4 r ⌝ }
-{
-    two(s, i) + 65536 * two(s, i + 2)
-}
-
-// Eight bytes.
-fn eight(s: &[u8], i: usize) -> u64
-    requires { ⌜ i + 8 ≤ length (now s) ⌝ }
-    ensures { λ r. ⌜ Loaded (now (s .entry)) i 8 r ⌝ }
-{
-    four(s, i) + 4294967296 * four(s, i + 4)
-}
+// The key of the empty word.
+pub const EMPTY: u32 = 62;
 
 const SIXTY_FOURS: u64 = 0x4040_4040_4040_4040;
 
@@ -85,67 +34,35 @@ fn low(w: u64) -> u64
     SIXTY_FOURS - ((w | w / 2) & SIXTY_FOURS)
 }
 
-// The lowest byte of either half of a number, each in its half.
-fn halves(w: u64) -> u64
-    ensures { λ r. ⌜ (r ≡ halfBytes w) × (r ≤ 1095216660735) ⌝ }
-{
-    w % 256 + w / 4294967296 % 256 * 4294967296
-}
-
-// The key with a number's eight bytes more: 12267, 6569, 29073 and 21537 are powers of 371 below 65536. Both halves are multiplied at once.
-fn fold(h: u32, w: u64) -> u32
-    requires { ⌜ h < 65536 ⌝ }
-    ensures { λ r. ⌜ (r ≡ keyFrom h (bytes 8 w)) × (r < 65536) ⌝ }
-{
-    let x = 12267 * halves(w)
-        + 6569 * halves(w / 256)
-        + 371 * halves(w / 65536)
-        + halves(w / 16777216);
-    let front = (x % 65536) as u32;
-    let back = (x / 4294967296) as u32;
-    (h * 21537 % 65536 + front * 29073 % 65536 + back) % 65536
-}
-
-// By what a key is multiplied to take back the bytes behind the first p of eight, where they are 0. As 371 is odd, it has an inverse.
-fn undo(p: u64) -> u32
-    requires { ⌜ p < 8 ⌝ }
-    ensures { λ r. ⌜ Undoes p r ⌝ }
-{
-    match p {
-        0 => 12257,
-        1 => 25363,
-        2 => 38025,
-        3 => 17035,
-        4 => 28529,
-        5 => 32963,
-        6 => 39577,
-        _ => 3003,
-    }
-}
-
-// The key with those bytes more that stand below the one with the bit z. However many they are, no branch is taken.
-fn fold_below(h: u32, w: u64, z: u64) -> u32
-    requires { ⌜ (h < 65536) × (z < 64) × (z % 8 ≡ 6) ⌝ }
-    ensures { λ r. ⌜ (r ≡ keyFrom h (bytes (z / 8) w)) × (r < 65536) ⌝ }
-{
-    let k = fold(h, w % (1 << (z - 6)));
-    k * undo(z / 8) % 65536
-}
-
-// The end of a text's first word, where the eight bytes w from i on have one below 64. One that is no gap is no letter either, and may take longer.
-fn end(s: &[u8], i: usize, h: u32, w: u64) -> Token
-    requires { ⌜ (i + 8 ≤ length (now s)) × (h < 65536) × Begun (now s) i h × Loaded (now s) i 8 w × Ends w ⌝ }
-    ensures { λ r. ⌜ Took (now (s .entry)) (r .key) (r .next) ⌝ }
+// The end of a word, of which the bytes before i add k to the key: of the eight bytes w from i on one is below 64. Past the n bytes of the text there
+// are zeros. However many letters there are, no branch is taken.
+fn end(k: u64, w: u64, i: usize, n: usize) -> Token
+    requires { ⌜ (k < 823685) × Ends w × (i + letters 8 w ≤ n) ⌝ }
+    ensures { λ r. ⌜ (r .key ≡ (k + lastWhole (letters 8 w) w) % 823685) × (r .next ≡ cond (ltb (i + letters 8 w) n) (i + letters 8 w + 1) (i + letters 8 w)) ⌝ }
 {
     let z = u64::trailing_zeros(low(w)) as u64;
+    let b = 1 << (z - 6);
+    let key = ((k + (w % b + b * END)) % KEYS) as u32;
     let e = i + (z / 8) as usize;
-    if is_gap(s[e]) {
-        return Token {
-            key: fold_below(h, w, z),
-            next: e + 1,
-        };
+    if e < n {
+        return Token { key, next: e + 1 };
     }
-    last(s, i, h)
+    Token { key, next: e }
+}
+
+// The end of a text's first word, of which the bytes before i add k to the key, where fewer than eight bytes are left.
+fn last(s: &[u8], i: usize, k: u64) -> Token
+    requires { ⌜ (i ≤ length (now s)) × (length (now s) < i + 8) × (k < 823685) × Begun (now s) i k ⌝ }
+    ensures { λ r. ⌜ Took (now (s .entry)) (r .key) (r .next) ⌝ }
+{
+    let n = s.len();
+    let mut w: u64 = 0;
+    let mut j = n;
+    while i < j {
+        j -= 1;
+        w = wide(s[j]) + w * 256;
+    }
+    end(k, w, i, n)
 }
 
 // The first word of a text. A reader spends its time here, on branches that go now this way and now that: a turn of eight bytes has one.
@@ -154,15 +71,15 @@ pub fn first(s: &[u8]) -> Token
 {
     let n = s.len();
     let eights = n - n % 8;
-    let mut h: u32 = 0;
+    let mut k: u64 = 0;
     let mut i: usize = 0;
     while i < eights {
-        let w = eight(s, i);
+        let w = get8(s, i);
         if low(w) != 0 {
-            return end(s, i, h, w);
+            return end(k, w, i, n);
         }
-        h = fold(h, w);
+        k = (k + w % KEYS) % KEYS;
         i += 8;
     }
-    last(s, i, h)
+    last(s, i, k)
 }

@@ -1,17 +1,25 @@
 // What the words of the Ukrainian numbers mean, by their keys.
-mod others;
-mod placed;
+mod shifts;
+mod table;
 
 ghost use mathlib.Core.Path.{_≡_};
 ghost use Rattle.uk_meanings.specs.Meanings.{meaningOf};
+
+// How many places the table has, into how many parts the keys fall, and what is above every key.
+const SLOTS: u32 = 512;
+
+const PARTS: u32 = 64;
+
+const UNIT: u32 = 1048576;
 
 // The meaning of the word with this key.
 pub fn meaning(key: u32) -> u16
     ensures { λ r. ⌜ r ≡ meaningOf key ⌝ }
 {
-    let entry = placed::entry_at(key % 512);
-    if entry % 65536 == key {
-        return (entry / 65536) as u16;
+    let shift = shifts::shift(key / SLOTS % PARTS) as u32;
+    let entry = table::entry_at((key % SLOTS + shift) % SLOTS);
+    if entry % UNIT == key {
+        return (entry / UNIT) as u16;
     }
-    others::other(key)
+    0
 }

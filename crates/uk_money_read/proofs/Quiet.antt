@@ -10,10 +10,10 @@ use lib.Dec.{eqb}
 use Rattle.base.specs.Join.{Word}
 use Rattle.base.specs.Utf8.{form2}
 use Rattle.tables.proofs.Tests.{and-left, and-right, all, all-at, clash}
-use Rattle.tokens.specs.Tokens.{keyFrom}
+use Rattle.tokens.specs.Tokens.{whole, key}
 use Rattle.tokens.proofs.Words.{isWord, Separable}
 use Rattle.meanings.specs.Lookup.{lookup}
-use Rattle.uk_meanings.specs.Meanings.{placed, others, meaningOf}
+use Rattle.uk_meanings.specs.Meanings.{shifts, table, meaningOf}
 use Rattle.uk_read.specs.Reading.{mean}
 use Rattle.uk_read.proofs.Taking.{Stops}
 use Rattle.uk_money.specs.NounTables.{noun2stGroupHardDeclensions, noun2stGroupSoftDeclensions, noun1stGroupSoftDeclensionsVowel, noun1stGroupHardDeclensions, adjectiveHardMasculine, hryvnias, kopiykas}
@@ -38,7 +38,7 @@ pub record Named (ws : List Word) : Type 0 where
   pub separable : Separable ws
 
 quiet? : List Word → Bool
-unfolding meaningOf placed others lookup keyFrom
+unfolding meaningOf shifts table lookup whole key
 quiet? [] = true
 quiet? (w ∷ ws) = (eqb (mean w) 0 && isWord w) && quiet? ws
 

@@ -10,10 +10,10 @@ use lib.Dec.{eqb}
 use Rattle.base.specs.Join.{Word}
 use Rattle.base.specs.Utf8.{utf8, form1, form2, form3}
 use Rattle.tables.proofs.Tests.{and-left, and-right, all, all-at}
-use Rattle.tokens.specs.Tokens.{keyFrom}
+use Rattle.tokens.specs.Tokens.{whole, key}
 use Rattle.tokens.proofs.Words.{isWord}
 use Rattle.meanings.specs.Lookup.{lookup}
-use Rattle.uk_meanings.specs.Meanings.{placed, others, meaningOf}
+use Rattle.uk_meanings.specs.Meanings.{shifts, table, meaningOf}
 use Rattle.uk.specs.UkTables.{zeros, gendered, units, teensBases, teensFlexions, tens, hundreds, thousandFlexions, megaBases, megaFlexions}
 use Rattle.uk.specs.Rules.{Words}
 use Rattle.uk.specs.Ukrainian.{genderAt, unitForm, teenForm, many, agreedNumber, agreedCase, scaleEnding, nounForm, ukrainian}
@@ -25,7 +25,7 @@ pub record Known (w : Word) (v : ℕ) : Type 0 where
   pub sound : isWord w ≡ true
 
 known? : Word → ℕ → Bool
-unfolding meaningOf placed others lookup keyFrom
+unfolding meaningOf shifts table lookup whole key
 known? w v = eqb (mean w) v && isWord w
 
 knows : (w : Word) (v : ℕ) → known? w v ≡ true → Known w v

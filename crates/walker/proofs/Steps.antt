@@ -7,7 +7,7 @@ use mathlib.Core.List.{List, [], _∷_}
 use native.Mathlib.Omega.{arith}
 use lib.ListN.{length, take, drop, length-drop, drop-of-length-le}
 use lib.Seq.{take-all, drop-drop}
-use Rattle.tokens.specs.Tokens.{isGap, firstWord, afterWord, key, keyFrom}
+use Rattle.tokens.specs.Tokens.{isGap, firstWord, afterWord, whole, key}
 use Rattle.tokens.specs.declared.Token.{Token}
 use Rattle.walker.specs.Walk.{span, wordAt}
 
@@ -55,8 +55,8 @@ word-here s at t e f l =
     let m : t .next ≤ length (drop at s) = rw d at l in
     token t (key (firstWord (drop at s))) (span (drop at s)) (rw d at e) (omega arith)
 
-pub word-none : (s : List ℕ) (at : ℕ) → length s ≤ at → record { key = 0; next = 0 } ≡ wordAt s at
-unfolding firstWord afterWord keyFrom
+pub word-none : (s : List ℕ) (at : ℕ) → length s ≤ at → record { key = 62; next = 0 } ≡ wordAt s at
+unfolding firstWord afterWord whole key
 word-none s at h = let d = drop-of-length-le s {i = at} h in rw d refl
 
 -- a step of a walk goes on, within the phrase, to what is behind the word

@@ -39,7 +39,10 @@ fn word_at(s: &[u8], at: usize) -> Token
     if at < s.len() {
         return tokens::first(&s[at..]);
     }
-    Token { key: 0, next: 0 }
+    Token {
+        key: tokens::EMPTY,
+        next: 0,
+    }
 }
 
 // A walker at a place of a phrase.
