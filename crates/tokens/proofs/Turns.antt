@@ -161,7 +161,7 @@ ended (suc n) (b ∷ x) h e =
     go : (t : Bool) → (lows n w * 256 + cond t 64 0 ≡ 0 → ⊥)
         → ((lows n w ≡ 0 → ⊥) → (whole (firstWord x) ≡ lastWhole (letters n w) w) × (afterWord x ≡ drop (suc (letters n w)) x) × (letters n w ≤ length x))
         → (whole (cond t [] (b ∷ firstWord x)) ≡ lastWhole (cond t 0 (suc (letters n w))) (b + w * 256))
-            × (cond t x (afterWord x) ≡ drop (suc (cond t 0 (suc (letters n w)))) (b ∷ x)) × (cond t 0 (suc (letters n w)) ≤ suc (length x))
+        × (cond t x (afterWord x) ≡ drop (suc (cond t 0 (suc (letters n w)))) (b ∷ x)) × (cond t 0 (suc (letters n w)) ≤ suc (length x))
     go true e f = (omega arith, refl, omega arith)
     go false e f =
         let r = f (λ z. e (omega arith)) in
