@@ -152,10 +152,22 @@ use mathlib.Core.List.{List, [], _∷_}
     return out
 
 
+def byte_string(data):
+    """Bytes as a byte string's text, letters as themselves, in lines of which each goes on behind a backslash."""
+    lines = ['']
+    for b in data:
+        # a space at the front of a line would be passed over
+        shown = chr(b) if b < 128 and (b != 32 or lines[-1]) else '\\x%02x' % b
+        if len(lines[-1] + shown) > 96:
+            lines.append('')
+            shown = shown if b != 32 else '\\x20'
+        lines[-1] += shown
+    return '\\\n    '.join(lines)
+
+
 def pool_source(head, pool):
-    rows = [pool.bytes[i:i + 24] for i in range(0, len(pool.bytes), 24)]
-    text = '\\\n    '.join(''.join('\\x%02x' % b for b in row) for row in rows)
-    return '%s\npub const POOL: [u8; %d] =\n    *b"%s";\n' % (head, len(pool.bytes), text)
+    size = len(pool.bytes)
+    return '%s\npub const SIZE: usize = %d;\n\npub const POOL: [u8; SIZE] =\n    *b"%s";\n' % (head, size, byte_string(pool.bytes))
 
 
 def pool_spec(head, name, pool):

@@ -42,7 +42,7 @@ pub const PREMIER: u16 = places::PREMIER;
 pub const IEME: u16 = places::IEME;
 
 // The texts. An array is made on the stack where it is used, so that it is made once a call and lent on.
-pub fn texts() -> [u8; 716]
+pub fn texts() -> [u8; pool::SIZE]
     ensures { λ r. ⌜ r ≡ frPool ⌝ }
 {
     pool::POOL

@@ -54,7 +54,7 @@ pub fn settings_of(gender: u32, number: u32, case: u32) -> Settings
 }
 
 // The texts. An array is made on the stack where it is used, so that it is made once a call and lent on.
-fn texts() -> [u8; 2340]
+fn texts() -> [u8; pool::SIZE]
     ensures { λ r. ⌜ r ≡ ukPool ⌝ }
 {
     pool::POOL

@@ -117,7 +117,7 @@ pub fn short_ending(soft: bool, settings: Settings) -> u16
 }
 
 // Those endings.
-fn texts() -> [u8; 30]
+fn texts() -> [u8; pool::SIZE]
     ensures { λ r. ⌜ r ≡ shortPool ⌝ }
 {
     pool::POOL
