@@ -2,7 +2,7 @@
 -- Assumes nothing.
 use Prim.Native.Nat.{ℕ, zero, suc, _+_, _-_, _*_, _/_, _%_, _^_, _≤_, _<_}
 use native.Mathlib.Decide.{ℕ-discrete, decLt}
-use native.Mathlib.Nat.{div-eq-of-lt, zero-mod, lt-of-lt-of-le, le-trans, pow-le-pow-right}
+use native.Mathlib.Nat.{div-eq-of-lt, div-lt-iff-lt-mul, one-le-pow, zero-mod, lt-of-lt-of-le, le-trans, pow-le-pow-right}
 use native.Mathlib.Numerals.{add-one}
 use native.Mathlib.Omega.{arith}
 use mathlib.Core.Bool.{true, false}
@@ -17,7 +17,7 @@ use Rattle.figures.specs.Text.{digits, plain, value}
 use Rattle.figures.proofs.Laws.Digits.{thousand}
 use Rattle.figures.proofs.Laws.Plain.{plain-digits, plain-least}
 use Rattle.figures.proofs.Laws.Text.{lead-zero}
-use Rattle.figures.proofs.Laws.Groups.{groups-length, groups-at, groups-total, hold}
+use Rattle.figures.proofs.Laws.Groups.{groups-length, groups-at, groups-total, hold, rest-turn}
 use Rattle.groups.specs.Highest.{ZeroFrom, Highest}
 
 -- a number below 1000 to the m has m orders
@@ -29,6 +29,25 @@ small-zeros n m k h i l = go (decLt i k)
         let s : n < 1000 ^ i = lt-of-lt-of-le h (pow-le-pow-right {n = 1000} (omega arith) l) in
         rw (groups-at k n i q, div-eq-of-lt s) (zero-mod 1000)
     go (no q) = List·getD-eq-default (groupsOf k n) 0 (rw groups-length (omega arith))
+
+-- a number divided by 1000 as often as it is not 0: these are its orders, and no more than it has room in
+module _ (n o : ℕ) (s : (i : ℕ) → i < o → n / 1000 ^ i ≡ 0 → ⊥) where
+  pub few-orders : (k : ℕ) → n < 1000 ^ k → o ≤ k
+  few-orders k h = go (decLt k o)
+    where
+      go : Dec (k < o) → o ≤ k
+      go (yes q) = absurd (s k q (div-eq-of-lt h))
+      go (no q) = omega arith
+
+  pub all-orders : (k : ℕ) → o ≤ k → n / 1000 ^ o ≡ 0 → Highest (groupsOf k n) o
+  all-orders k h z = record {
+    within = rw groups-length h;
+    zeros = small-zeros n o k (omega (arith, div-lt-iff-lt-mul {k = 1000 ^ o} {x = n} {y = 1} (one-le-pow o 1000 (omega arith)) .0 (omega arith)));
+    some = λ l e.
+    let q : o - 1 + 1 ≡ o = omega arith in
+    let r = rw q at (rest-turn n (n / 1000 ^ (o - 1)) (o - 1) refl) in
+    s (o - 1) (omega arith) (omega (arith, r, sym (groups-at k n (o - 1) (omega arith)) ∙ e));
+  }
 
 -- the text's digits tell its orders; of any digits, those that are 0
 pub counted-zeros : (s : List ℕ) → digits s ≡ true → (k : ℕ) → ZeroFrom (groupsOf k (value s)) ((length s + 2) / 3)
