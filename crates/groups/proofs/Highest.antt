@@ -6,11 +6,11 @@ use native.Mathlib.Nat.{div-eq-of-lt, div-lt-iff-lt-mul, one-le-pow, zero-mod, l
 use native.Mathlib.Numerals.{add-one}
 use native.Mathlib.Omega.{arith}
 use mathlib.Core.Bool.{true, false}
-use mathlib.Core.List.{List, [], _∷_}
+use mathlib.Core.List.{List, [], _∷_, _++_}
 use mathlib.Core.Path.{_≡_, refl, sym, _∙_}
 use borrow.Author.Tests.{eq-eqb, ne-eqb}
 use lib.Dec.{eqb}
-use lib.ListN.{length, getD, take, drop, set, drop-of-length-le, List·getD-eq-default}
+use lib.ListN.{length, getD, take, drop, set, replicate, length-append, drop-of-length-le, List·getD-eq-default}
 use lib.Seq.{drop-cons, getD-set-other}
 use Rattle.figures.specs.Groups.{groupsOf, total, Groups}
 use Rattle.figures.specs.Text.{digits, plain, value}
@@ -66,6 +66,24 @@ counted s p k h = record {
         let w : 1000 ^ o ≤ value (d ∷ ds) =
         le-trans (rw (← thousand o) (pow-le-pow-right {n = 10} (omega arith) {i = o * 3} {j = length ds} (omega arith))) (plain-least d ds p (omega arith)) in
         omega (arith, lead-zero 1000 o (value (d ∷ ds)) (omega arith) (hold (suc o) (d ∷ ds) (plain-digits (d ∷ ds) p) b) e)
+
+-- groups that are all 0; one more at the end, which is 0 or below where the zeros begin
+pub zeros-all : (k : ℕ) → ZeroFrom (replicate k 0) 0
+zeros-all zero i h = refl
+zeros-all (suc k) zero h = refl
+zeros-all (suc k) (suc i) h = zeros-all k i (omega arith)
+
+pub zeros-then : (gs : List ℕ) (n : ℕ) → ZeroFrom gs n → ZeroFrom (gs ++ (0 ∷ [])) n
+zeros-then gs n z i h = last gs i ∙ z i h
+  where
+    last : (gs : List ℕ) (i : ℕ) → getD (gs ++ (0 ∷ [])) i 0 ≡ getD gs i 0
+    last [] zero = refl
+    last [] (suc i) = refl
+    last (g ∷ gs) zero = refl
+    last (g ∷ gs) (suc i) = last gs i
+
+pub zeros-past : (gs : List ℕ) (v n : ℕ) → length gs < n → ZeroFrom (gs ++ (v ∷ [])) n
+zeros-past gs v n l i h = List·getD-eq-default (gs ++ (v ∷ [])) 0 (rw (length-append gs (v ∷ [])) (omega arith))
 
 -- groups that are 0 from the first on make up 0, and 0 has no others
 pub total-none : (gs : List ℕ) → ZeroFrom gs 0 → total gs ≡ 0
