@@ -2,6 +2,7 @@
 pub mod money; // money.rt: the money text of groups and hundredths
 
 use base::Answer;
+use figures::Read;
 use figures::Seen;
 ghost use mathlib.Core.Path.{_≡_};
 ghost use Prim.Native.Nat.{_*_, _≤_, _<_};
@@ -141,14 +142,15 @@ pub fn put_number(minus: bool, n: usize, g: &[u16], out: &mut [u8]) -> Answer
 }
 
 // The answer to what was read: that text with its sign, or 6.
-pub fn put_seen(seen: Seen, n: usize, g: &[u16], out: &mut [u8]) -> Answer
-    requires { ⌜ Groups (now g) × Highest (now g) n ⌝ }
+pub fn put_read(read: Read, g: &[u16], out: &mut [u8]) -> Answer
+    requires { ⌜ Groups (now g) × Highest (now g) (read .orders) ⌝ }
     requires { ⌜ (0 < length (now g)) × (length (now g) ≤ 34) ⌝ }
-    ensures { λ r. ⌜ Answers r (now (out .entry)) (now (out .exit)) (answered seen (total (now (g .entry))) (now (out .entry))) ⌝ }
+    ensures { λ r. ⌜ Answers r (now (out .entry)) (now (out .exit)) (answered (read .seen) (total (now (g .entry))) (now (out .entry))) ⌝ }
 {
+    let seen = read.seen;
     match seen {
         Seen::Refused => base::refused(6),
-        Seen::Plain => put_number(false, n, g, out),
-        Seen::Negative => put_number(true, n, g, out),
+        Seen::Plain => put_number(false, read.orders, g, out),
+        Seen::Negative => put_number(true, read.orders, g, out),
     }
 }
