@@ -73,6 +73,9 @@ zeros-all zero i h = refl
 zeros-all (suc k) zero h = refl
 zeros-all (suc k) (suc i) h = zeros-all k i (omega arith)
 
+pub zeros-highest : (k : ℕ) → Highest (replicate k 0) 0
+zeros-highest k = record { within = omega arith; zeros = zeros-all k; some = λ h. absurd (omega arith) }
+
 pub zeros-then : (gs : List ℕ) (n : ℕ) → ZeroFrom gs n → ZeroFrom (gs ++ (0 ∷ [])) n
 zeros-then gs n z i h = last gs i ∙ z i h
   where

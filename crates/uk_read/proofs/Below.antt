@@ -131,10 +131,20 @@ module _ (s xs ys : List ℕ) (k o v at n : ℕ) (z : take k xs ≡ zeros k) (h 
       let p : left k w ≡ left o (taken 0 w .rest) = ap (λ (i : ℕ). left i w) (sym q) ∙ one-below w o (k - suc o) (sym b) .1 in
       ap split (sym (drop-drop n at s)) ∙ ap (λ (t : List ℕ). split (drop n t)) (sym (from-is at s)) ∙ e ∙ ap (left o) r ∙ sym p
 
--- the code's answer over zeros alone
-pub all-read : (ws : List Word) (xs ys : List ℕ) → xs ≡ zeros 22 → ys ≡ sums 22 ws ++ drop 22 xs → ys ≡ sums 22 ws
-all-read ws xs ys z e = e ∙ ap (λ (l : List ℕ). sums 22 ws ++ drop 22 l) z ∙ append-nil (sums 22 ws)
-
 pub zeros-groups : (k : ℕ) → Groups (zeros k)
 zeros-groups zero = tt
 zeros-groups (suc k) = (omega arith, zeros-groups k)
+
+-- all groups of words, stored over zeros, and the orders that they have at most
+pub record All (ws : List Word) (gs : List ℕ) (n : ℕ) : Type 0 where
+  pub size : length gs ≡ 22
+  pub small : Groups gs
+  pub groups : gs ≡ sums 22 ws
+  pub few : n ≤ length gs
+  pub above : ZeroFrom gs n
+
+pub all-read : (ws : List Word) (xs ys : List ℕ) (n : ℕ) → xs ≡ zeros 22 → ys ≡ sums 22 ws ++ drop 22 xs → (Groups xs → Groups ys) → ZeroFrom (sums 22 ws) n → n ≤ 22 → All ws ys n
+all-read ws xs ys n z e g a f =
+    let q : ys ≡ sums 22 ws = e ∙ ap (λ (l : List ℕ). sums 22 ws ++ drop 22 l) z ∙ append-nil (sums 22 ws) in
+    let l : length ys ≡ 22 = ap length q ∙ sums-length 22 ws in
+    record { size = l; small = g (rw z (zeros-groups 22)); groups = q; few = omega arith; above = rw q a }
