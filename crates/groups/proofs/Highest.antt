@@ -44,9 +44,9 @@ module _ (n o : ℕ) (s : (i : ℕ) → i < o → n / 1000 ^ i ≡ 0 → ⊥) wh
     within = rw groups-length h;
     zeros = small-zeros n o k (omega (arith, div-lt-iff-lt-mul {k = 1000 ^ o} {x = n} {y = 1} (one-le-pow o 1000 (omega arith)) .0 (omega arith)));
     some = λ l e.
-    let q : o - 1 + 1 ≡ o = omega arith in
-    let r = rw q at (rest-turn n (n / 1000 ^ (o - 1)) (o - 1) refl) in
-    s (o - 1) (omega arith) (omega (arith, r, sym (groups-at k n (o - 1) (omega arith)) ∙ e));
+        let q : o - 1 + 1 ≡ o = omega arith in
+        let r = rw q at (rest-turn n (n / 1000 ^ (o - 1)) (o - 1) refl) in
+        s (o - 1) (omega arith) (omega (arith, r, sym (groups-at k n (o - 1) (omega arith)) ∙ e));
   }
 
 -- the text's digits tell its orders; of any digits, those that are 0

@@ -77,7 +77,10 @@ pub fn groups(k: usize, s: &[u8], out: &mut [u16; 22]) -> Span
     ensures { λ r. ⌜ ZeroFrom (sums k (split (now (s .entry)))) (r .orders) × (r .orders ≤ k) ⌝ }
 {
     if k == 0 {
-        return Span { bytes: 0, orders: 0 };
+        return Span {
+            bytes: 0,
+            orders: 0,
+        };
     }
     let g = first_group(s);
     let order = g.order;
@@ -90,7 +93,10 @@ pub fn groups(k: usize, s: &[u8], out: &mut [u16; 22]) -> Span
             orders: order + 1,
         };
     }
-    Span { bytes: 0, orders: 0 }
+    Span {
+        bytes: 0,
+        orders: 0,
+    }
 }
 
 // How many bytes the minus word at the front of a text has with the space behind it; 0 where there is none.

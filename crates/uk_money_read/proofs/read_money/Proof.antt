@@ -54,9 +54,11 @@ returns-2 c =
 returns-3 : tie.Need-returns-3
 returns-3 c =
     let a = c .before .before .before .before .before .before .before .before .before .before .before .before .before .before .before .before .before .before in
-    let m = made (c .before .before .before .before .before .before .before .before .before .before .before .before .before .before .before) in
-    (refused (a .args .currency) (a .args .settings .case) (a .pre .1) (a .pre .0) (a .args .s .now) (c .before .before .before .before .before .before .before .before .before .before .before .before .before .before .before .groups .last .1 .1 .0) (zeros 22) (m .size) (m .small) refl (zeros-groups 22) refl
-    (m .groups) (c .before .before .before .before .before .before .before .before .lowest .result) (hundredths (c .before .before .before .before .before .before .before .before)) (c .before .before .before .before .before .before .is-amount .ensures .fails (c .before .before .before .before .before .if1 .left)) (c .before .is-amount2 .ensures .fails (c .if2 .left)), zeros-highest 22)
+    let m = made (c .before .before .before .before .before .before .before .before .before .before .before .before .before .before .before) in (
+      refused (a .args .currency) (a .args .settings .case) (a .pre .1) (a .pre .0) (a .args .s .now) (c .before .before .before .before .before .before .before .before .before .before .before .before .before .before .before .groups .last .1 .1 .0) (zeros 22) (m .size) (m .small) refl (zeros-groups 22) refl
+          (m .groups) (c .before .before .before .before .before .before .before .before .lowest .result) (hundredths (c .before .before .before .before .before .before .before .before)) (c .before .before .before .before .before .before .is-amount .ensures .fails (c .before .before .before .before .before .if1 .left)) (c .before .is-amount2 .ensures .fails (c .if2 .left)),
+      zeros-highest 22,
+    )
 
 pub read-money-spec : {M : Type 1} → statement M
 read-money-spec =

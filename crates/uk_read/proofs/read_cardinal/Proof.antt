@@ -51,14 +51,16 @@ returns : tie.Need-returns
 returns c =
     let a = c .before .before .before .before .before .before .before .before .before .before .before .before .before .before .before in
     let m = made (c .before .before .before .before .before .before .before .before .before .before) in
-    let sign = c .before .before .before .before .before .before .before .before .before .before .before .before .before .minus in
-    ((
-      rw (c .seen-of .ensures)
-          (read _ (lawful (a .args .settings .gender) (a .args .settings .case) (a .pre .0) (a .pre .1)) (a .args .s .now) (c .before .before .before .before .before .before .before .before .before .before .groups .last .1 .1 .0) _ (m .size) (m .small) (sign-is _ (sign .result) (sign .ensures .0)) (m .groups) _ _
-          (zero-is (c .before .before .before .before .before .before .before)) (decided (c .before))),
-      m .small,
-      m .size,
-    ), c .before .before .before .before .before .before .before .top .ensures .0)
+    let sign = c .before .before .before .before .before .before .before .before .before .before .before .before .before .minus in (
+      (
+        rw (c .seen-of .ensures)
+            (read _ (lawful (a .args .settings .gender) (a .args .settings .case) (a .pre .0) (a .pre .1)) (a .args .s .now) (c .before .before .before .before .before .before .before .before .before .before .groups .last .1 .1 .0) _ (m .size) (m .small) (sign-is _ (sign .result) (sign .ensures .0)) (m .groups) _ _
+            (zero-is (c .before .before .before .before .before .before .before)) (decided (c .before))),
+        m .small,
+        m .size,
+      ),
+      c .before .before .before .before .before .before .before .top .ensures .0,
+    )
 
 top-requires : tie.Need-top-requires
 top-requires c κs = let m = made (c .before .before) in (m .few, m .above)
