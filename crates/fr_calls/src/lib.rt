@@ -81,8 +81,8 @@ fn read_cardinal(f: French, said: &[u8], out: &mut [u8]) -> Answer
     ensures { λ r. ⌜ Reads (CardinalMeans f) (now (said .entry)) r (now (out .entry)) (now (out .exit)) ⌝ }
 {
     let mut gs = [0u16; ORDERS];
-    let seen = fr_read::read_cardinal(f, said, &mut gs);
-    numerals::put_seen(seen, &gs, out)
+    let read = fr_read::read_cardinal(f, said, &mut gs);
+    numerals::put_read(read, &gs, out)
 }
 
 // Any bytes, read as an ordinal.
@@ -91,8 +91,9 @@ fn read_ordinal(f: French, said: &[u8], out: &mut [u8]) -> Answer
     ensures { λ r. ⌜ Reads (OrdinalMeans f) (now (said .entry)) r (now (out .entry)) (now (out .exit)) ⌝ }
 {
     let mut gs = [0u16; ORDERS];
-    if fr_read::read_ordinal(f, said, &mut gs) {
-        numerals::put_number(false, &gs, out)
+    let nth = fr_read::read_ordinal(f, said, &mut gs);
+    if nth.stands {
+        numerals::put_number(false, nth.orders, &gs, out)
     } else {
         base::refused(NO_PHRASE)
     }

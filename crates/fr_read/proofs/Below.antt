@@ -2,12 +2,17 @@
 -- Assumes nothing.
 use Prim.Native.Nat.{ℕ, zero, suc, _+_, _-_, _<_, _≤_}
 use mathlib.Core.Path.{_≡_, refl, sym, _∙_, ap}
+use mathlib.Core.Bool.{Bool, true, false, cond}
 use mathlib.Core.List.{List, [], _∷_, _++_, append-assoc}
 use native.Mathlib.Omega.{arith}
-use borrow.Author.Tests.{eq-eqb, ne-eqb}
+use borrow.Author.Tests.{eq-eqb, ne-eqb, eqb-true}
+use lib.Dec.{eqb}
 use lib.ListN.{drop, set, replicate, replicate-append-replicate}
+use Rattle.groups.specs.Highest.{ZeroFrom}
+use Rattle.groups.proofs.Highest.{zeros-all, zeros-then, zeros-past}
 use Rattle.plan.proofs.Laws.{from, from-is}
 use Rattle.fr_read.specs.Reading.{meanings, Group, guess, seems, reads}
+use Rattle.fr_read.proofs.Bounds.{reads-length}
 
 abbrev pub zeros : ℕ → List ℕ
 zeros k = replicate k 0
@@ -38,6 +43,19 @@ one-below v o (suc d) ms =
     rw a
     (reads-over (suc (o + d)) (guess v o ms) (λ z. omega (arith, z)) ∙ ap (λ (l : List ℕ). l ++ (0 ∷ [])) (one-below v o d ms)
     ∙ append-assoc (reads o (seems 0 0 ms)) (v ∷ zeros d) (0 ∷ []) ∙ rw (zeros-more d) refl)
+
+-- the orders above it are 0, and all are where it is of order k or above
+pub zeros-above : (k : ℕ) (g : Group) → ZeroFrom (reads k g) (g .order + 1)
+unfolding reads
+zeros-above zero g = λ i h. refl
+zeros-above (suc k) g = go (eqb (g .order) k) refl (zeros-above k g)
+  where
+    go : (t : Bool) → eqb (g .order) k ≡ t → ZeroFrom (reads k g) (g .order + 1) → ZeroFrom (cond t (reads k (seems 0 0 (g .rest)) ++ (g .value ∷ [])) (reads k g ++ (0 ∷ []))) (g .order + 1)
+    go true e z = zeros-past (reads k (seems 0 0 (g .rest))) (g .value) (g .order + 1) (omega (arith, eqb-true (g .order) k e, reads-length k (seems 0 0 (g .rest))))
+    go false e z = zeros-then (reads k g) (g .order + 1) z
+
+pub zeros-none : (k : ℕ) (g : Group) → k ≤ g .order → ZeroFrom (reads k g) 0
+zeros-none k g h = rw (none-below g k h) (zeros-all k)
 
 -- a buffer that begins with zeros, and one of them set
 past : (k : ℕ) (ys : List ℕ) → drop k (zeros k ++ ys) ≡ ys

@@ -1,6 +1,6 @@
 // Readers of French phrases. The meanings of the words are added up, leniently, to a number; then the number's own phrase, by the speller's
 // plan, is held against the bytes. So everything that depends on a setting stands in the planner alone.
-use figures::Seen;
+use figures::Read;
 use fr::French;
 use fr_plan::ORDERS;
 use fr_plan::PLAN;
@@ -41,6 +41,12 @@ pub struct Group {
     pub value: u16,
     pub order: usize,
     pub next: usize,
+}
+
+// What the reader of ordinals found: whether the bytes are one, and how many orders the groups have that it stored.
+pub struct Nth {
+    pub stands: bool,
+    pub orders: usize,
 }
 
 // The last two digits of a sum.
@@ -153,10 +159,11 @@ fn first_group(s: &[u8]) -> Group
 }
 
 // The groups of the orders below k, from the highest down; each call has the order of the group that it follows, which is lower, and the part of
-// the text behind it. The orders that are not there stay 0.
-fn groups(k: usize, s: &[u8], out: &mut [u16; ORDERS])
+// the text behind it. The orders that are not there stay 0. Returns how many orders there are: that of the first group and 1, or 0 for no group.
+fn groups(k: usize, s: &[u8], out: &mut [u16; ORDERS]) -> usize
     requires { ⌜ (k ≤ 34) × (now out ≡ replicate k 0 ++ drop k (now out)) ⌝ }
     ensures { λ _. ⌜ now (out .exit) ≡ reads k (seems 0 0 (meanings (now (s .entry)))) ++ drop k (now (out .entry)) ⌝ }
+    ensures { λ r. ⌜ ZeroFrom (reads k (seems 0 0 (meanings (now (s .entry))))) r × (r ≤ k) ⌝ }
 {
     let g = first_group(s);
     let order = g.order;
@@ -164,15 +171,17 @@ fn groups(k: usize, s: &[u8], out: &mut [u16; ORDERS])
         out[order] = g.value;
         let at = g.next;
         groups(order, &s[at..], out);
+        return order + 1;
     }
+    0
 }
 
-// All groups.
-fn guess(s: &[u8], out: &mut [u16; ORDERS])
-    ensures { λ _. ⌜ now (out .exit) ≡ guessed (meanings (now (s .entry))) ⌝ }
+// All groups, and how many orders there are.
+fn guess(s: &[u8], out: &mut [u16; ORDERS]) -> usize
+    ensures { λ r. ⌜ (now (out .exit) ≡ guessed (meanings (now (s .entry)))) × ZeroFrom (now (out .exit)) r × (r ≤ 34) ⌝ }
 {
     *out = [0u16; ORDERS];
-    groups(ORDERS, s, out);
+    groups(ORDERS, s, out)
 }
 
 // How many bytes the minus word and the gap behind it have at the front; 0 where it does not stand there.
@@ -218,23 +227,26 @@ fn is_ordinal(f: French, n: usize, gs: &[u16; ORDERS], s: &[u8]) -> bool
 }
 
 // Any bytes as a cardinal under these settings: what they are by the grammar, with the groups in out.
-pub fn read_cardinal(f: French, s: &[u8], out: &mut [u16; ORDERS]) -> Seen
+pub fn read_cardinal(f: French, s: &[u8], out: &mut [u16; ORDERS]) -> Read
     requires { ⌜ InRange f × (length (now out) ≡ 34) ⌝ }
-    ensures { λ r. ⌜ ReadOf (Says f (now (s .entry))) r (now (out .exit)) × Groups34 (now (out .exit)) ⌝ }
+    ensures { λ r. ⌜ ReadOf (Says f (now (s .entry))) (r .seen) (now (out .exit)) × Groups34 (now (out .exit)) × Highest (now (out .exit)) (r .orders) ⌝ }
 {
     let k = sign(s);
-    guess(&s[k..], out);
-    let n = groups::top(out);
+    let m = guess(&s[k..], out);
+    let n = groups::top(m, out);
     let zero = n == 0;
     let stands = is_cardinal(f, zero, 0 < k, n, out, s);
-    figures::seen_of(stands, zero, 0 < k)
+    let seen = figures::seen_of(stands, zero, 0 < k);
+    Read { seen, orders: n }
 }
 
 // Any bytes as an ordinal under these settings: whether they are one by the grammar, with the groups in out.
-pub fn read_ordinal(f: French, s: &[u8], out: &mut [u16; ORDERS]) -> bool
+pub fn read_ordinal(f: French, s: &[u8], out: &mut [u16; ORDERS]) -> Nth
     requires { ⌜ InRange f × (length (now out) ≡ 34) ⌝ }
-    ensures { λ r. ⌜ ReadNth f (now (s .entry)) r (now (out .exit)) × Groups34 (now (out .exit)) ⌝ }
+    ensures { λ r. ⌜ ReadNth f (now (s .entry)) (r .stands) (now (out .exit)) × Groups34 (now (out .exit)) × Highest (now (out .exit)) (r .orders) ⌝ }
 {
-    guess(s, out);
-    is_ordinal(f, groups::top(out), out, s)
+    let m = guess(s, out);
+    let n = groups::top(m, out);
+    let stands = is_ordinal(f, n, out, s);
+    Nth { stands, orders: n }
 }

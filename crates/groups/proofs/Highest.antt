@@ -2,22 +2,22 @@
 -- Assumes nothing.
 use Prim.Native.Nat.{ℕ, zero, suc, _+_, _-_, _*_, _/_, _%_, _^_, _≤_, _<_}
 use native.Mathlib.Decide.{ℕ-discrete, decLt}
-use native.Mathlib.Nat.{div-eq-of-lt, zero-mod, lt-of-lt-of-le, le-trans, pow-le-pow-right}
+use native.Mathlib.Nat.{div-eq-of-lt, div-lt-iff-lt-mul, one-le-pow, zero-mod, lt-of-lt-of-le, le-trans, pow-le-pow-right}
 use native.Mathlib.Numerals.{add-one}
 use native.Mathlib.Omega.{arith}
 use mathlib.Core.Bool.{true, false}
-use mathlib.Core.List.{List, [], _∷_}
+use mathlib.Core.List.{List, [], _∷_, _++_}
 use mathlib.Core.Path.{_≡_, refl, sym, _∙_}
 use borrow.Author.Tests.{eq-eqb, ne-eqb}
 use lib.Dec.{eqb}
-use lib.ListN.{length, getD, take, drop, set, drop-of-length-le, List·getD-eq-default}
+use lib.ListN.{length, getD, take, drop, set, replicate, length-append, drop-of-length-le, List·getD-eq-default}
 use lib.Seq.{drop-cons, getD-set-other}
 use Rattle.figures.specs.Groups.{groupsOf, total, Groups}
 use Rattle.figures.specs.Text.{digits, plain, value}
 use Rattle.figures.proofs.Laws.Digits.{thousand}
 use Rattle.figures.proofs.Laws.Plain.{plain-digits, plain-least}
 use Rattle.figures.proofs.Laws.Text.{lead-zero}
-use Rattle.figures.proofs.Laws.Groups.{groups-length, groups-at, groups-total, hold}
+use Rattle.figures.proofs.Laws.Groups.{groups-length, groups-at, groups-total, hold, rest-turn}
 use Rattle.groups.specs.Highest.{ZeroFrom, Highest}
 
 -- a number below 1000 to the m has m orders
@@ -29,6 +29,25 @@ small-zeros n m k h i l = go (decLt i k)
         let s : n < 1000 ^ i = lt-of-lt-of-le h (pow-le-pow-right {n = 1000} (omega arith) l) in
         rw (groups-at k n i q, div-eq-of-lt s) (zero-mod 1000)
     go (no q) = List·getD-eq-default (groupsOf k n) 0 (rw groups-length (omega arith))
+
+-- a number divided by 1000 as often as it is not 0: these are its orders, and no more than it has room in
+module _ (n o : ℕ) (s : (i : ℕ) → i < o → n / 1000 ^ i ≡ 0 → ⊥) where
+  pub few-orders : (k : ℕ) → n < 1000 ^ k → o ≤ k
+  few-orders k h = go (decLt k o)
+    where
+      go : Dec (k < o) → o ≤ k
+      go (yes q) = absurd (s k q (div-eq-of-lt h))
+      go (no q) = omega arith
+
+  pub all-orders : (k : ℕ) → o ≤ k → n / 1000 ^ o ≡ 0 → Highest (groupsOf k n) o
+  all-orders k h z = record {
+    within = rw groups-length h;
+    zeros = small-zeros n o k (omega (arith, div-lt-iff-lt-mul {k = 1000 ^ o} {x = n} {y = 1} (one-le-pow o 1000 (omega arith)) .0 (omega arith)));
+    some = λ l e.
+        let q : o - 1 + 1 ≡ o = omega arith in
+        let r = rw q at (rest-turn n (n / 1000 ^ (o - 1)) (o - 1) refl) in
+        s (o - 1) (omega arith) (omega (arith, r, sym (groups-at k n (o - 1) (omega arith)) ∙ e));
+  }
 
 -- the text's digits tell its orders; of any digits, those that are 0
 pub counted-zeros : (s : List ℕ) → digits s ≡ true → (k : ℕ) → ZeroFrom (groupsOf k (value s)) ((length s + 2) / 3)
@@ -47,6 +66,27 @@ counted s p k h = record {
         let w : 1000 ^ o ≤ value (d ∷ ds) =
         le-trans (rw (← thousand o) (pow-le-pow-right {n = 10} (omega arith) {i = o * 3} {j = length ds} (omega arith))) (plain-least d ds p (omega arith)) in
         omega (arith, lead-zero 1000 o (value (d ∷ ds)) (omega arith) (hold (suc o) (d ∷ ds) (plain-digits (d ∷ ds) p) b) e)
+
+-- groups that are all 0; one more at the end, which is 0 or below where the zeros begin
+pub zeros-all : (k : ℕ) → ZeroFrom (replicate k 0) 0
+zeros-all zero i h = refl
+zeros-all (suc k) zero h = refl
+zeros-all (suc k) (suc i) h = zeros-all k i (omega arith)
+
+pub zeros-highest : (k : ℕ) → Highest (replicate k 0) 0
+zeros-highest k = record { within = omega arith; zeros = zeros-all k; some = λ h. absurd (omega arith) }
+
+pub zeros-then : (gs : List ℕ) (n : ℕ) → ZeroFrom gs n → ZeroFrom (gs ++ (0 ∷ [])) n
+zeros-then gs n z i h = last gs i ∙ z i h
+  where
+    last : (gs : List ℕ) (i : ℕ) → getD (gs ++ (0 ∷ [])) i 0 ≡ getD gs i 0
+    last [] zero = refl
+    last [] (suc i) = refl
+    last (g ∷ gs) zero = refl
+    last (g ∷ gs) (suc i) = last gs i
+
+pub zeros-past : (gs : List ℕ) (v n : ℕ) → length gs < n → ZeroFrom (gs ++ (v ∷ [])) n
+zeros-past gs v n l i h = List·getD-eq-default (gs ++ (v ∷ [])) 0 (rw (length-append gs (v ∷ [])) (omega arith))
 
 -- groups that are 0 from the first on make up 0, and 0 has no others
 pub total-none : (gs : List ℕ) → ZeroFrom gs 0 → total gs ≡ 0

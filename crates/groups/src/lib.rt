@@ -7,7 +7,7 @@ ghost use lib.Dec.{eqb};
 ghost use lib.ListN.{length, take, drop, getD, replicate};
 ghost use Rattle.figures.specs.Text.{digits, value};
 ghost use Rattle.figures.specs.Groups.{groupsOf, total, Groups};
-ghost use Rattle.groups.specs.Highest.{Highest};
+ghost use Rattle.groups.specs.Highest.{ZeroFrom, Highest};
 
 // What three digits mean; their bytes of '0' add up to 5328.
 fn three(a: u8, b: u8, c: u8) -> u16
@@ -77,24 +77,20 @@ pub fn groups34(s: &[u8]) -> [u16; 34]
     g
 }
 
-// The lowest groups of n, as many as out holds.
-pub fn groups_from(n: u64, out: &mut [u16])
-    ensures { λ _. ⌜ now (out .exit) ≡ groupsOf (length (now (out .entry))) n ⌝ }
+// Stores the groups of n over zeros, and returns how many orders they have; no number has more than seven.
+pub fn groups_from(n: u64, out: &mut [u16]) -> usize
+    requires { ⌜ now out ≡ replicate (length (now out)) 0 ⌝ }
+    requires { ⌜ 7 ≤ length (now out) ⌝ }
+    ensures { λ r. ⌜ (now (out .exit) ≡ groupsOf (length (now (out .entry))) n) × Highest (now (out .exit)) r ⌝ }
 {
     let mut rest = n;
     let mut o = 0;
     while rest != 0 {
-        if out.len() <= o {
-            return;
-        }
         out[o] = (rest % 1000) as u16;
         rest /= 1000;
         o += 1;
     }
-    while o < out.len() {
-        out[o] = 0;
-        o += 1;
-    }
+    o
 }
 
 // How many groups digits have.
@@ -104,11 +100,12 @@ pub fn count(s: &[u8]) -> usize
     (s.len() + 2) / 3
 }
 
-// The orders up to the highest group that is not 0.
-pub fn top(gs: &[u16]) -> usize
+// The orders up to the highest group that is not 0, where those from m on are.
+pub fn top(m: usize, gs: &[u16]) -> usize
+    requires { ⌜ (m ≤ length (now gs)) × ZeroFrom (now gs) m ⌝ }
     ensures { λ r. ⌜ Highest (now (gs .entry)) r × (0 < r → getD (now (gs .entry)) (r - 1) 0 ≡ 0 → ⊥) ⌝ }
 {
-    let mut n = gs.len();
+    let mut n = m;
     while 0 < n {
         if gs[n - 1] != 0 {
             return n;

@@ -1,19 +1,18 @@
--- The highest group that is not 0 bounds a number.
+-- The highest group that is not 0 tells the length of a number's text.
 -- Assumes nothing.
-use Prim.Native.Nat.{ℕ, zero, suc, _-_, _^_, _<_, _≤_}
-use mathlib.Core.Path.{_≡_, _∙_}
+use Prim.Native.Nat.{ℕ, zero, suc, _+_, _-_, _*_, _/_, _%_, _^_, _<_, _≤_}
+use mathlib.Core.Path.{_≡_, refl, _∙_}
 use mathlib.Core.List.{List, [], _∷_}
+use native.Mathlib.Nat.{mod-eq-of-lt, div-lt-iff-lt-mul, one-le-pow, pow-succ'}
 use native.Mathlib.Omega.{arith}
 use lib.ListN.{length, getD, take}
 use lib.Seq.{length-take-le}
 use Rattle.figures.specs.Groups.{total, Groups}
+use Rattle.figures.specs.Text.{text}
 use Rattle.figures.proofs.Laws.Groups.{group-of, total-lt}
-use Rattle.figures.proofs.Laws.Text.{lead-some}
+use Rattle.figures.proofs.Laws.Text.{lead-some, text-above}
 use Rattle.groups.specs.Highest.{Highest}
 use Rattle.groups.proofs.Highest.{total-take, total-none}
-
-abbrev High : List ℕ → ℕ → Type 0
-High gs r = ((0 < r) × (r ≤ length gs)) × ((total gs < 1000 ^ r) × (1 < r → 1000 ^ (r - 1) ≤ total gs))
 
 groups-take : (gs : List ℕ) (n : ℕ) → Groups gs → Groups (take n gs)
 groups-take gs zero g = tt
@@ -21,15 +20,18 @@ groups-take [] (suc n) g = tt
 groups-take (x ∷ gs) (suc n) g = (g .0, groups-take gs n (g .1))
 
 module _ (gs : List ℕ) (g : Groups gs) (n : ℕ) (t : Highest gs n) where
-  pub one-high : n ≡ 0 → 0 < length gs → High gs 1
-  one-high e h = ((omega arith, omega arith), (rw (total-none gs (rw e at (t .zeros))) (omega arith), λ q. absurd (omega arith)))
+  pub size-none : n ≡ 0 → 1 ≡ length (text (total gs))
+  unfolding text
+  size-none e = rw (total-none gs (rw e at (t .zeros)))
 
-  pub top-high : (0 < n → getD gs (n - 1) 0 ≡ 0 → ⊥) → (n ≡ 0 → ⊥) → High gs n
-  top-high s z =
-      let l = total-lt (take n gs) (groups-take gs n g) in (
-        (omega arith, t .within),
-        (
-          rw (total-take gs n (t .zeros), length-take-le n gs (t .within)) at l,
-          λ q. lead-some 1000 (n - 1) (total gs) (λ e. s (omega arith) (group-of gs (n - 1) g (omega (arith, t .within)) ∙ e)),
-        ),
-      )
+  below-top : total gs < 1000 ^ n
+  below-top = rw (total-take gs n (t .zeros), length-take-le n gs (t .within)) at (total-lt (take n gs) (groups-take gs n g))
+
+  pub size-some : length gs ≤ 34 → (n ≡ 0 → ⊥) → (n - 1) * 3 + length (text (getD gs (n - 1) 0)) ≡ length (text (total gs))
+  size-some m z =
+      let o : ℕ = n - 1 in
+      let w : n ≤ length gs = t .within in
+      let e : suc o ≡ n = omega arith in
+      let l : total gs / 1000 ^ o < 1000 = div-lt-iff-lt-mul (one-le-pow o 1000 (omega arith)) .1 (rw (← pow-succ' 1000 o, e) below-top) in
+      let x : getD gs o 0 ≡ total gs / 1000 ^ o % 1000 = group-of gs o g (omega arith) in
+      rw (x ∙ mod-eq-of-lt l) (text-above (total gs) o (omega arith) l (λ q. lead-some 1000 o (total gs) (λ y. t .some (omega arith) (x ∙ y))))

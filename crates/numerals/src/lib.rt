@@ -2,26 +2,17 @@
 pub mod money; // money.rt: the money text of groups and hundredths
 
 use base::Answer;
+use figures::Read;
 use figures::Seen;
 ghost use mathlib.Core.Path.{_≡_};
-ghost use Prim.Native.Nat.{_-_, _*_, _^_, _≤_, _<_};
+ghost use Prim.Native.Nat.{_*_, _≤_, _<_};
 ghost use lib.ListN.{length};
 ghost use Rattle.base.specs.Buffer.{over};
 ghost use Rattle.base.specs.Answer.{fitted, Answers};
 ghost use Rattle.figures.specs.Text.{fixed, text, signedText};
 ghost use Rattle.figures.specs.Groups.{total, Groups};
+ghost use Rattle.groups.specs.Highest.{Highest};
 ghost use Rattle.numerals.specs.Reading.{answered};
-
-// How many groups there are up to the highest that is not 0, at least one.
-fn height(g: &[u16]) -> usize
-    requires { ⌜ Groups (now g) ⌝ }
-    requires { ⌜ 0 < length (now g) ⌝ }
-    ensures { λ r. ⌜ (0 < r) × (r ≤ length (now (g .entry))) ⌝ }
-    ensures { λ r. ⌜ (total (now (g .entry)) < 1000 ^ r) × (1 < r → 1000 ^ (r - 1) ≤ total (now (g .entry))) ⌝ }
-{
-    let n = groups::top(g);
-    if n == 0 { 1 } else { n }
-}
 
 // The byte of the digit 0, as wide as a group.
 const ZERO: u16 = 48;
@@ -40,13 +31,16 @@ fn group_size(x: u16) -> usize
     3
 }
 
-// The length of the number text of the number with the groups g.
-pub fn text_size(g: &[u16]) -> usize
-    requires { ⌜ Groups (now g) ⌝ }
+// The length of the number text of the number with the groups g, of n orders; that of 0 has one digit.
+pub fn text_size(n: usize, g: &[u16]) -> usize
+    requires { ⌜ Groups (now g) × Highest (now g) n ⌝ }
     requires { ⌜ (0 < length (now g)) × (length (now g) ≤ 34) ⌝ }
     ensures { λ r. ⌜ r ≡ length (text (total (now (g .entry)))) ⌝ }
 {
-    let o = height(g) - 1;
+    if n == 0 {
+        return 1;
+    }
+    let o = n - 1;
     o * 3 + group_size(g[o])
 }
 
@@ -99,15 +93,15 @@ pub fn put_text(g: &[u16], out: &mut [u8], w: usize)
 }
 
 // The length of the number text of that number, or of its opposite.
-pub fn number_size(minus: bool, g: &[u16]) -> usize
-    requires { ⌜ Groups (now g) ⌝ }
+pub fn number_size(minus: bool, n: usize, g: &[u16]) -> usize
+    requires { ⌜ Groups (now g) × Highest (now g) n ⌝ }
     requires { ⌜ (0 < length (now g)) × (length (now g) ≤ 34) ⌝ }
     ensures { λ r. ⌜ (r ≡ length (signedText minus (total (now (g .entry))))) × (r ≤ 103) ⌝ }
 {
     if minus {
-        text_size(g) + 1
+        text_size(n, g) + 1
     } else {
-        text_size(g)
+        text_size(n, g)
     }
 }
 
@@ -128,12 +122,12 @@ pub fn put_signed(minus: bool, g: &[u16], out: &mut [u8], w: usize)
 }
 
 // Writes that text and answers its length, or answers 7 with the length where the buffer is shorter.
-pub fn put_number(minus: bool, g: &[u16], out: &mut [u8]) -> Answer
-    requires { ⌜ Groups (now g) ⌝ }
+pub fn put_number(minus: bool, n: usize, g: &[u16], out: &mut [u8]) -> Answer
+    requires { ⌜ Groups (now g) × Highest (now g) n ⌝ }
     requires { ⌜ (0 < length (now g)) × (length (now g) ≤ 34) ⌝ }
     ensures { λ r. ⌜ Answers r (now (out .entry)) (now (out .exit)) (fitted (now (out .entry)) (signedText minus (total (now (g .entry))))) ⌝ }
 {
-    let w = number_size(minus, g);
+    let w = number_size(minus, n, g);
     if out.len() < w {
         return Answer {
             number: 7,
@@ -148,14 +142,15 @@ pub fn put_number(minus: bool, g: &[u16], out: &mut [u8]) -> Answer
 }
 
 // The answer to what was read: that text with its sign, or 6.
-pub fn put_seen(seen: Seen, g: &[u16], out: &mut [u8]) -> Answer
-    requires { ⌜ Groups (now g) ⌝ }
+pub fn put_read(read: Read, g: &[u16], out: &mut [u8]) -> Answer
+    requires { ⌜ Groups (now g) × Highest (now g) (read .orders) ⌝ }
     requires { ⌜ (0 < length (now g)) × (length (now g) ≤ 34) ⌝ }
-    ensures { λ r. ⌜ Answers r (now (out .entry)) (now (out .exit)) (answered seen (total (now (g .entry))) (now (out .entry))) ⌝ }
+    ensures { λ r. ⌜ Answers r (now (out .entry)) (now (out .exit)) (answered (read .seen) (total (now (g .entry))) (now (out .entry))) ⌝ }
 {
+    let seen = read.seen;
     match seen {
         Seen::Refused => base::refused(6),
-        Seen::Plain => put_number(false, g, out),
-        Seen::Negative => put_number(true, g, out),
+        Seen::Plain => put_number(false, read.orders, g, out),
+        Seen::Negative => put_number(true, read.orders, g, out),
     }
 }

@@ -10,18 +10,19 @@ ghost use Rattle.base.specs.Buffer.{over};
 ghost use Rattle.base.specs.Answer.{fitted, Answers};
 ghost use Rattle.figures.specs.Text.{fixed};
 ghost use Rattle.figures.specs.Groups.{total, Groups};
+ghost use Rattle.groups.specs.Highest.{Highest};
 ghost use Rattle.figures.specs.Money.{moneyText};
 
-// The length of the money text of the number with the groups g and h hundredths.
-pub fn money_size(g: &[u16], h: u32) -> usize
-    requires { ⌜ Groups (now g) ⌝ }
+// The length of the money text of the number with the groups g, of n orders, and h hundredths.
+pub fn money_size(n: usize, g: &[u16], h: u32) -> usize
+    requires { ⌜ Groups (now g) × Highest (now g) n ⌝ }
     requires { ⌜ (0 < length (now g)) × (length (now g) ≤ 34) ⌝ }
     ensures { λ r. ⌜ r ≡ length (moneyText (total (now (g .entry))) h) ⌝ }
 {
     if h == 0 {
-        text_size(g)
+        text_size(n, g)
     } else {
-        text_size(g) + 3
+        text_size(n, g) + 3
     }
 }
 
@@ -56,13 +57,13 @@ pub fn put_money(g: &[u16], h: u32, out: &mut [u8], w: usize)
 }
 
 // Writes that text and answers its length, or answers 7 with the length where the buffer is shorter.
-pub fn put_money_text(g: &[u16], h: u32, out: &mut [u8]) -> Answer
-    requires { ⌜ Groups (now g) ⌝ }
+pub fn put_money_text(n: usize, g: &[u16], h: u32, out: &mut [u8]) -> Answer
+    requires { ⌜ Groups (now g) × Highest (now g) n ⌝ }
     requires { ⌜ (0 < length (now g)) × (length (now g) ≤ 34) ⌝ }
     requires { ⌜ h < 100 ⌝ }
     ensures { λ r. ⌜ Answers r (now (out .entry)) (now (out .exit)) (fitted (now (out .entry)) (moneyText (total (now (g .entry))) h)) ⌝ }
 {
-    let w = money_size(g, h);
+    let w = money_size(n, g, h);
     if out.len() < w {
         return Answer {
             number: 7,

@@ -41,8 +41,8 @@ fn read(settings: Settings, said: &[u8], out: &mut [u8]) -> Answer
     ensures { λ r. ⌜ ReadsAs (Means (settings .gender) (settings .case)) (now (said .entry)) r (now (out .entry)) (now (out .exit)) ⌝ }
 {
     let mut gs = [0u16; 22];
-    let seen = uk_read::read_cardinal(settings, said, &mut gs);
-    numerals::put_seen(seen, &gs, out)
+    let read = uk_read::read_cardinal(settings, said, &mut gs);
+    numerals::put_read(read, &gs, out)
 }
 
 // The cardinal of a number text.

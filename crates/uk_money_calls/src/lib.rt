@@ -33,10 +33,11 @@ fn read(settings: Settings, currency: usize, said: &[u8], out: &mut [u8]) -> Ans
     ensures { λ r. ⌜ ReadsAs (Means (currencyAt currency) (settings .case)) (now (said .entry)) r (now (out .entry)) (now (out .exit)) ⌝ }
 {
     let mut gs = [0u16; 22];
-    let reading = uk_money_read::read_money(settings, currency, said, &mut gs);
+    let outcome = uk_money_read::read_money(settings, currency, said, &mut gs);
+    let reading = outcome.reading;
     match reading {
         Reading::Refused => base::refused(6),
-        Reading::Amount(h) => numerals::money::put_money_text(&gs, h, out),
+        Reading::Amount(h) => numerals::money::put_money_text(outcome.orders, &gs, h, out),
     }
 }
 

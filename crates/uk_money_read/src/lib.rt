@@ -40,6 +40,12 @@ pub enum Reading {
     Amount(u32),
 }
 
+// What the reader found: what the phrase is, and how many orders the groups have that it stored.
+pub struct Outcome {
+    pub reading: Reading,
+    pub orders: usize,
+}
+
 // How many bytes the words at the front of a text have that are no number words.
 fn nouns(s: &[u8]) -> usize
     ensures { λ r. ⌜ (split (drop r (now (s .entry))) ≡ behind (split (now (s .entry)))) × (r ≤ length (now (s .entry))) ⌝ }
@@ -107,15 +113,22 @@ fn is_phrase(
     uk::stands(&plan[..k], s)
 }
 
-// Whether s is the phrase of the amount with these groups and hundredths, and that is within the limits.
-fn is_amount(settings: Settings, currency: usize, gs: &[u16; 22], hundredths: u32, s: &[u8]) -> bool
-    requires { ⌜ (settings .case < 6) × (currency < 44) × Groups (now gs) ⌝ }
+// Whether s is the phrase of the amount with these groups, of n orders, and hundredths, and that is within the limits.
+fn is_amount(
+    settings: Settings,
+    currency: usize,
+    n: usize,
+    gs: &[u16; 22],
+    hundredths: u32,
+    s: &[u8],
+) -> bool
+    requires { ⌜ (settings .case < 6) × (currency < 44) × Groups (now gs) × (length (now gs) ≡ 22) ⌝ }
+    requires { ⌜ Highest (now gs) n × (eqb n 0 ≡ eqb (total (now gs)) 0) ⌝ }
     ensures { λ r. ⌜ Decides r ((total (now (gs .entry)) ≤ moneyLimit) × (hundredths < 100) × (joined (moneyWords (currencyAt currency) (settings .case) (eqb (total (now (gs .entry))) 0) (now (gs .entry)) hundredths) ≡ now (s .entry))) ⌝ }
 {
     if MOST < hundredths {
         return false;
     }
-    let n = groups::top(gs);
     if within(n, gs) {
         is_phrase(settings, currency, n, gs, hundredths, s)
     } else {
@@ -124,21 +137,33 @@ fn is_amount(settings: Settings, currency: usize, gs: &[u16; 22], hundredths: u3
 }
 
 // Any bytes, under these settings and for a currency: what they are by the grammar, with the groups of the whole part in out.
-pub fn read_money(settings: Settings, currency: usize, s: &[u8], out: &mut [u16; 22]) -> Reading
+pub fn read_money(settings: Settings, currency: usize, s: &[u8], out: &mut [u16; 22]) -> Outcome
     requires { ⌜ (settings .case < 6) × (currency < 44) × (now out ≡ replicate 22 0) ⌝ }
-    ensures { λ r. ⌜ ReadMoney (currencyAt currency) (settings .case) (now (s .entry)) r (now (out .exit)) ⌝ }
+    ensures { λ r. ⌜ ReadMoney (currencyAt currency) (settings .case) (now (s .entry)) (r .reading) (now (out .exit)) ⌝ }
+    ensures { λ r. ⌜ Highest (now (out .exit)) (r .orders) ⌝ }
 {
-    let n = uk_read::groups(ORDERS, s, out);
-    let m = nouns(&s[n..]);
-    let at = n + m;
+    let span = uk_read::groups(ORDERS, s, out);
+    let n = groups::top(span.orders, out);
+    let k = span.bytes;
+    let m = nouns(&s[k..]);
+    let at = k + m;
     let h = lowest(&s[at..]);
-    if is_amount(settings, currency, out, h, s) {
-        return Reading::Amount(h);
+    if is_amount(settings, currency, n, out, h, s) {
+        return Outcome {
+            reading: Reading::Amount(h),
+            orders: n,
+        };
     }
     let alone = out[0] as u32;
     *out = [0u16; 22];
-    if is_amount(settings, currency, out, alone, s) {
-        return Reading::Amount(alone);
+    if is_amount(settings, currency, 0, out, alone, s) {
+        return Outcome {
+            reading: Reading::Amount(alone),
+            orders: 0,
+        };
     }
-    Reading::Refused
+    Outcome {
+        reading: Reading::Refused,
+        orders: 0,
+    }
 }

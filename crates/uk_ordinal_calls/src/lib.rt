@@ -63,9 +63,8 @@ fn say_year(settings: Settings, year: i64, out: &mut [u8]) -> Answer
     ensures { λ r. ⌜ r .length ≤ 12320 ⌝ }
 {
     let mut gs = [0u16; 22];
-    groups::groups_from(figures::year::magnitude(year), &mut gs);
+    let k = groups::groups_from(figures::year::magnitude(year), &mut gs);
     let mut plan = [0u32; 119];
-    let k = groups::top(&gs);
     let n = uk_ordinal_plan::plan_year(settings, is_early(year), k, &gs, &mut plan);
     uk::speak(&plan, n, out)
 }

@@ -2,13 +2,17 @@
 -- Assumes nothing.
 use Prim.Native.Nat.{ℕ, zero, suc, _+_, _-_, _<_, _≤_}
 use mathlib.Core.Path.{_≡_, refl, sym, _∙_, ap}
-use mathlib.Core.List.{List, [], _∷_, _++_, append-assoc}
+use mathlib.Core.Bool.{Bool, true, false, cond}
+use mathlib.Core.List.{List, [], _∷_, _++_, append-nil, append-assoc}
 use native.Mathlib.Omega.{arith}
-use borrow.Author.Tests.{eq-eqb, ne-eqb}
+use borrow.Author.Tests.{eq-eqb, ne-eqb, eqb-true}
+use lib.Dec.{eqb}
 use lib.ListN.{length, length-take, take, drop, set, replicate, take-append-drop, length-replicate, replicate-append-replicate}
 use lib.Seq.{drop-drop, length-take-le, set-split, take-take, take-set-le, drop-append-le, drop-append-seam, take-append-seam}
 use Rattle.base.specs.Join.{Word}
 use Rattle.figures.specs.Groups.{Groups}
+use Rattle.groups.specs.Highest.{ZeroFrom}
+use Rattle.groups.proofs.Highest.{zeros-all, zeros-then, zeros-past}
 use Rattle.plan.proofs.Laws.{from, from-is}
 use Rattle.tokens.specs.Tokens.{split}
 use Rattle.uk_read.specs.Reading.{taken, sums, left}
@@ -46,6 +50,17 @@ module _ (ws : List Word) where
         rw (a, n) (p .1),
       )
 
+-- the orders above the next group are 0
+pub zeros-above : (k : ℕ) (ws : List Word) → ZeroFrom (sums k ws) (taken 0 ws .order + 1)
+unfolding sums
+zeros-above zero ws = λ i h. refl
+zeros-above (suc k) ws = go (eqb (taken 0 ws .order) k) refl (zeros-above k ws)
+  where
+    go : (t : Bool) → eqb (taken 0 ws .order) k ≡ t → ZeroFrom (sums k ws) (taken 0 ws .order + 1)
+        → ZeroFrom (cond t (sums k (taken 0 ws .rest) ++ (taken 0 ws .value ∷ [])) (sums k ws ++ (0 ∷ []))) (taken 0 ws .order + 1)
+    go true e z = zeros-past (sums k (taken 0 ws .rest)) (taken 0 ws .value) (taken 0 ws .order + 1) (omega (arith, eqb-true (taken 0 ws .order) k e, sums-length k (taken 0 ws .rest)))
+    go false e z = zeros-then (sums k ws) (taken 0 ws .order + 1) z
+
 -- a buffer of groups whose first k are 0 has them
 pub holds : (xs : List ℕ) (k : ℕ) → take k xs ≡ zeros k → k ≤ length xs
 holds xs k z = omega (arith, length-take k xs, ap length z, length-replicate {A = ℕ} k 0)
@@ -81,6 +96,13 @@ module _ (xs : List ℕ) (k : ℕ) (z : take k xs ≡ zeros k) where
           let l = length-replicate {A = ℕ} o 0 in
           rw (← e, ← replicate-append-replicate {A = ℕ} o d 0) (rw l at (drop-append-seam (zeros o) (zeros d)))
 
+-- the code's answer where there is no group below order k
+pub no-groups : (s xs : List ℕ) (k : ℕ) → take k xs ≡ zeros k → k ≤ taken 0 (split s) .order
+    → ((xs ≡ sums k (split s) ++ drop k xs) × (Groups xs → Groups xs)) × (((split (drop 0 s) ≡ left k (split s)) × (0 ≤ length s)) × (ZeroFrom (sums k (split s)) 0 × (0 ≤ k)))
+no-groups s xs k z h =
+    let n = none-below (split s) k h in
+    ((sym (rw (n .0) (split-at xs k z)), λ q. q), ((sym (n .1), omega arith), (rw (n .0) (zeros-all k), omega arith)))
+
 -- a group below 1000 set among such groups
 pub set-groups : (xs : List ℕ) (i v : ℕ) → v < 1000 → Groups xs → Groups (set xs i v)
 set-groups [] i v h g = tt
@@ -112,3 +134,17 @@ module _ (s xs ys : List ℕ) (k o v at n : ℕ) (z : take k xs ≡ zeros k) (h 
 pub zeros-groups : (k : ℕ) → Groups (zeros k)
 zeros-groups zero = tt
 zeros-groups (suc k) = (omega arith, zeros-groups k)
+
+-- all groups of words, stored over zeros, and the orders that they have at most
+pub record All (ws : List Word) (gs : List ℕ) (n : ℕ) : Type 0 where
+  pub size : length gs ≡ 22
+  pub small : Groups gs
+  pub groups : gs ≡ sums 22 ws
+  pub few : n ≤ length gs
+  pub above : ZeroFrom gs n
+
+pub all-read : (ws : List Word) (xs ys : List ℕ) (n : ℕ) → xs ≡ zeros 22 → ys ≡ sums 22 ws ++ drop 22 xs → (Groups xs → Groups ys) → ZeroFrom (sums 22 ws) n → n ≤ 22 → All ws ys n
+all-read ws xs ys n z e g a f =
+    let q : ys ≡ sums 22 ws = e ∙ ap (λ (l : List ℕ). sums 22 ws ++ drop 22 l) z ∙ append-nil (sums 22 ws) in
+    let l : length ys ≡ 22 = ap length q ∙ sums-length 22 ws in
+    record { size = l; small = g (rw z (zeros-groups 22)); groups = q; few = omega arith; above = rw q a }

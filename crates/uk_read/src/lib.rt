@@ -1,6 +1,6 @@
 // The reader of Ukrainian cardinals. It takes any bytes word by word, makes a sign and groups of them, and compares the words that these have
 // under the settings, planned as the speller plans them, with the bytes.
-use figures::Seen;
+use figures::Read;
 use uk::Settings;
 ghost use mathlib.Core.Path.{_≡_};
 ghost use mathlib.Core.Bool.{not};
@@ -10,6 +10,7 @@ ghost use lib.Dec.{eqb};
 ghost use lib.ListN.{length, take, drop, replicate};
 ghost use Rattle.figures.specs.Groups.{Groups};
 ghost use Rattle.figures.specs.Seen.{ReadOf};
+ghost use Rattle.groups.specs.Highest.{ZeroFrom, Highest};
 ghost use Rattle.tokens.specs.Tokens.{split};
 ghost use Rattle.uk.specs.Ukrainian.{ukrainian};
 ghost use Rattle.uk.specs.Grammar.{Says};
@@ -27,6 +28,12 @@ pub struct Group {
     pub value: u16,
     pub order: usize,
     pub next: usize,
+}
+
+// How many bytes groups have in a text, and how many orders: that of the first group and 1, or 0 for no group.
+pub struct Span {
+    pub bytes: usize,
+    pub orders: usize,
 }
 
 // The group at the front of a text: number words up to a scale noun, or up to a word that is none, or the end.
@@ -62,21 +69,34 @@ fn first_group(s: &[u8]) -> Group
 }
 
 // The groups of the orders below k, from the highest down; each call has a lower order and the part of the text behind its group.
-// The orders that are not there stay 0. Returns how many bytes the groups have.
-pub fn groups(k: usize, s: &[u8], out: &mut [u16; 22]) -> usize
+// The orders that are not there stay 0. Below order 0 no word is taken.
+pub fn groups(k: usize, s: &[u8], out: &mut [u16; 22]) -> Span
     requires { ⌜ (k ≤ 22) × (take k (now out) ≡ replicate k 0) ⌝ }
     ensures { λ r. ⌜ (now (out .exit) ≡ sums k (split (now (s .entry))) ++ drop k (now (out .entry))) × (Groups (now (out .entry)) → Groups (now (out .exit))) ⌝ }
-    ensures { λ r. ⌜ (split (drop r (now (s .entry))) ≡ left k (split (now (s .entry)))) × (r ≤ length (now (s .entry))) ⌝ }
+    ensures { λ r. ⌜ (split (drop (r .bytes) (now (s .entry))) ≡ left k (split (now (s .entry)))) × (r .bytes ≤ length (now (s .entry))) ⌝ }
+    ensures { λ r. ⌜ ZeroFrom (sums k (split (now (s .entry)))) (r .orders) × (r .orders ≤ k) ⌝ }
 {
+    if k == 0 {
+        return Span {
+            bytes: 0,
+            orders: 0,
+        };
+    }
     let g = first_group(s);
     let order = g.order;
     if order < k {
         out[order] = g.value;
         let at = g.next;
-        let n = groups(order, &s[at..], out);
-        return at + n;
+        let below = groups(order, &s[at..], out);
+        return Span {
+            bytes: at + below.bytes,
+            orders: order + 1,
+        };
     }
-    0
+    Span {
+        bytes: 0,
+        orders: 0,
+    }
 }
 
 // How many bytes the minus word at the front of a text has with the space behind it; 0 where there is none.
@@ -94,16 +114,18 @@ fn minus(s: &[u8]) -> usize
 }
 
 // Any bytes, under these settings: what they are by the grammar, with the groups in out.
-pub fn read_cardinal(settings: Settings, s: &[u8], out: &mut [u16; 22]) -> Seen
+pub fn read_cardinal(settings: Settings, s: &[u8], out: &mut [u16; 22]) -> Read
     requires { ⌜ (settings .gender < 3) × (settings .case < 6) × (now out ≡ replicate 22 0) ⌝ }
-    ensures { λ r. ⌜ ReadOf (Says (ukrainian (settings .gender) (settings .case)) (now (s .entry))) r (now (out .exit)) × Groups (now (out .exit)) × (length (now (out .exit)) ≡ 22) ⌝ }
+    ensures { λ r. ⌜ ReadOf (Says (ukrainian (settings .gender) (settings .case)) (now (s .entry))) (r .seen) (now (out .exit)) × Groups (now (out .exit)) × (length (now (out .exit)) ≡ 22) ⌝ }
+    ensures { λ r. ⌜ Highest (now (out .exit)) (r .orders) ⌝ }
 {
     let m = minus(s);
-    groups(22, &s[m..], out);
-    let n = groups::top(out);
+    let span = groups(22, &s[m..], out);
+    let n = groups::top(span.orders, out);
     let zero = n == 0;
     let mut plan = [0u32; 112];
     let k = uk_plan::plan_cardinal(settings, zero, 0 < m, n, out, &mut plan);
     let stands = uk::stands(&plan[..k], s);
-    figures::seen_of(stands, zero, 0 < m)
+    let seen = figures::seen_of(stands, zero, 0 < m);
+    Read { seen, orders: n }
 }

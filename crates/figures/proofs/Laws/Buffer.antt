@@ -7,7 +7,7 @@ use native.Mathlib.Omega.{arith}
 use mathlib.Core.List.{List, _++_, append-nil, append-assoc}
 use mathlib.Core.Path.{_≡_}
 use lib.ListN.{length, getD, take, drop, set, length-append, length-drop, drop-of-length-le}
-use lib.Seq.{paste-suc, take-all, sets, sets-eq, length-take-le, drop-at, take-append-seam, drop-append-seam, drop-drop}
+use lib.Seq.{paste-suc, take-all, sets, sets-eq, take-append-seam, drop-append-seam, drop-drop}
 use borrow.Author.Tests.{lt-ltb, le-ltb}
 use borrow.Rule.Slice.PartMut.{putMid}
 use Rattle.base.specs.Answer.{fitted, Answers}
@@ -31,9 +31,6 @@ pub sofar-all : (xs t : List ℕ) (i : ℕ) → length t ≡ length xs → lengt
 sofar-all xs t i e h =
     let l : length t ≤ i = omega arith in
     rw (take-all i t l, drop-of-length-le xs {i = i} h) (append-nil t)
-
-pub sofar-again : (xs t : List ℕ) (i : ℕ) → i ≤ length t → sofar (sofar xs t i) t i ≡ sofar xs t i
-sofar-again xs t i h = rw (drop-at (take i t) (drop i xs) i (length-take-le i t h))
 
 -- bytes stored one after the other from the first
 pub put-all : (xs b : List ℕ) → length b ≤ length xs → sets xs 0 b ≡ over xs b

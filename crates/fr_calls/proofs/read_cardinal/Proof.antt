@@ -14,6 +14,6 @@ read-cardinal-spec =
     (tie.spec
     (λ c κs. search needs)
     (λ c. sym (c .before .read-cardinal .ensures .1 .0))
-    (λ c κs. let p = c .before .before .read-cardinal in (p .ensures .1 .1, (omega (arith, p .ensures .1 .0), omega (arith, p .ensures .1 .0))))
+    (λ c κs. let p = c .before .before .read-cardinal .ensures in ((p .1 .1, p .2), (omega (arith, p .1 .0), omega (arith, p .1 .0))))
     (λ c. search needs)
-    (λ c. let a = c .before .before .before .before .before .before .before .before .before .args in read-right (Says (a .f)) (a .said .now) _ (a .out .now) _ _ _ (c .before .before .before .before .before .read-cardinal .ensures .0) (c .before .before .put-seen .ensures)))
+    (λ c. let a = c .before .before .before .before .before .before .before .before .before .args in read-right (Says (a .f)) (a .said .now) _ (a .out .now) _ _ _ (c .before .before .before .before .before .read-cardinal .ensures .0) (c .before .before .put-read .ensures)))

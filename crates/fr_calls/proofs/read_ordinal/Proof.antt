@@ -13,7 +13,7 @@ read-ordinal-spec =
     (tie.spec
     (λ c κs. search needs)
     (λ c. sym (c .before .before .read-ordinal .ensures .1 .0))
-    (λ c κs. let p = c .before .before .before .read-ordinal in (p .ensures .1 .1, (omega (arith, p .ensures .1 .0), omega (arith, p .ensures .1 .0))))
+    (λ c κs. let p = c .before .before .before .read-ordinal .ensures in ((p .1 .1, p .2), (omega (arith, p .1 .0), omega (arith, p .1 .0))))
     (λ c κs. search needs)
     (λ c. search needs)
     (λ c. let a = c .before .before .before .before .before .before .before .before .before .before .args in let p = c .before .before .before .before .before .before .read-ordinal in ordinal-some (a .f) (a .said .now) (p .last .1 .1 .0) (a .out .now) _ _ _ (p .ensures .0) (c .before .before .before .before .before .if1 .taken) (c .before .before .put-number .ensures))

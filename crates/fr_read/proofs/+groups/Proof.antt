@@ -5,7 +5,7 @@ use native.Mathlib.Omega.{arith}
 use borrow.Author.Needs.{needs}
 use borrow.Fn.Kinds.{In}
 use borrow.Fn.PlainCycle.{Measures, is, falls, and}
-use Rattle.fr_read.proofs.Below.{reads-none, set-below, reads-below}
+use Rattle.fr_read.proofs.Below.{zeros-above, zeros-none, reads-none, set-below, reads-below}
 use Rattle.fr_read.proofs.groups.Reads as groups-reads
 use Rattle.fr_read.proofs.groups.Kinds as groups-kinds
 use Rattle.fr_read.proofs.+groups.Lts-groups as groups-lts
@@ -36,11 +36,15 @@ pub +groups-spec : {M : Type 1} → statement M
     let s = c .before .before .before .before .before in
     let o = c .before .before .if1 .taken in
     (omega (arith, s .pre .0, o), (omega (arith, s .pre .1 .0, o), set-below (s .args .out .now) (s .args .k) (s .pre .1 .1) _ _ o)))
+    (λ c. omega (arith, c .before .before .before .before .before .before .pre .1 .0, c .before .before .before .if1 .taken))
     (λ c.
     let s = c .before .before .before .before .before .before in
     let g = c .before .before .before .before .first-group in
-    reads-below (s .args .out .now) (s .args .k) (s .pre .1 .1) (g .result .order) (g .result .value) (c .before .before .before .if1 .taken) (s .args .s .now) _ (g .result .next) (g .ensures .0) (c .groups .ensures))
+    let o = c .before .before .before .if1 .taken in (
+      reads-below (s .args .out .now) (s .args .k) (s .pre .1 .1) (g .result .order) (g .result .value) o (s .args .s .now) _ (g .result .next) (g .ensures .0) (c .groups .ensures .0),
+      (rw (g .ensures .0) (zeros-above (s .args .k) _), omega (arith, o)),
+    ))
     (λ c.
     let s = c .before .before .before in
     let g = c .before .first-group in
-    reads-none (s .args .out .now) (s .args .k) (s .pre .1 .1) _ _ (g .ensures .0) (c .if1 .left))
+    (reads-none (s .args .out .now) (s .args .k) (s .pre .1 .1) _ _ (g .ensures .0) (c .if1 .left), (rw (g .ensures .0) (zeros-none (s .args .k) _ (c .if1 .left)), omega arith)))

@@ -9,7 +9,10 @@ use Rattle.fr_read.proofs.guess.Tie as tie
 
 returns : tie.Need-returns
 unfolding guessed
-returns c = c .groups .ensures ∙ append-nil _
+returns c =
+    let g = c .groups .ensures in
+    let e = g .0 ∙ append-nil _ in
+    (e, rw e (g .1 .0), g .1 .1)
 
 pub guess-spec : {M : Type 1} → statement M
 guess-spec = tie.close (tie.spec (λ c κs. search needs) returns)

@@ -3,6 +3,7 @@
 use borrow.Author.Needs.{needs}
 use native.Mathlib.Omega.{arith}
 use mathlib.Core.Path.{_≡_}
+use lib.ListN.{length}
 use Rattle.groups.proofs.Highest.{top-zero}
 use Rattle.fr_read.specs.Reading.{meanings, unsigned, guessed}
 use Rattle.fr_read.proofs.Promises.{are-groups, behind, read}
@@ -11,7 +12,19 @@ use Rattle.fr_read.proofs.read_cardinal.Tie as tie
 
 -- the groups are those guessed behind the sign
 groups : (c : tie.After-guess) → c .guess .last .1 .0 ≡ guessed (unsigned (meanings (c .before .before .before .before .before .args .s .now)))
-groups c = behind (c .before .before .before .before .before .args .s .now) _ (c .before .before .before .sign .result) (c .guess .ensures) (c .before .before .before .sign .ensures .1)
+groups c = behind (c .before .before .before .before .before .args .s .now) _ (c .before .before .before .sign .result) (c .guess .ensures .0) (c .before .before .before .sign .ensures .1)
+
+size : (c : tie.After-guess) → length (c .guess .last .1 .0) ≡ 34
+size c = are-groups _ _ (groups c) .0
+
+returns : tie.Need-returns
+returns c =
+    let s = c .before .before .before .before .before .before .before .before .before .before .before in
+    let t = c .before .before .before .top .ensures in
+    let r =
+    read (s .args .f) (s .pre .0) (s .args .s .now) _ (groups (c .before .before .before .before .before .before)) _ _ _ (top-zero _ _ (t .0) (t .1))
+    (c .before .before .before .before .before .before .before .before .before .sign .ensures .0) (c .before .is-cardinal .ensures) in
+    (rw (c .seen-of .ensures) (r .0), r .1, t .0)
 
 pub read-cardinal-spec : {M : Type 1} → statement M
 read-cardinal-spec =
@@ -22,8 +35,7 @@ read-cardinal-spec =
     (λ c. search needs)
     (λ c. search needs)
     (λ c κs. search needs)
+    (λ c κs. let g = c .before .before in (omega (arith, g .guess .ensures .2, size g), g .guess .ensures .1))
+    (λ c κs. let t = c .before .top .ensures .0 in (c .before .before .before .before .before .before .before .before .before .pre .0, t .zeros, omega (arith, t .within, size (c .before .before .before .before))))
     (λ c κs. search needs)
-    (λ c κs. let t = c .before .top .ensures .0 in (c .before .before .before .before .before .before .before .before .before .pre .0, t .zeros, omega (arith, t .within, are-groups _ _ (groups (c .before .before .before .before)) .0)))
-    (λ c κs. search needs)
-    (λ c. let s = c .before .before .before .before .before .before .before .before .before .before .before in let t = c .before .before .before .top .ensures in
-    rw (c .seen-of .ensures) (read (s .args .f) (s .pre .0) (s .args .s .now) _ (groups (c .before .before .before .before .before .before)) _ _ _ (top-zero _ _ (t .0) (t .1)) (c .before .before .before .before .before .before .before .before .before .sign .ensures .0) (c .before .is-cardinal .ensures))))
+    returns)

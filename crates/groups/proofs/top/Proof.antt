@@ -3,20 +3,20 @@
 use Prim.Native.Nat.{_≤_}
 use native.Mathlib.Omega.{arith}
 use borrow.Author.Needs.{needs}
-use lib.ListN.{length, List·getD-eq-default}
+use lib.ListN.{length}
 use Rattle.groups.specs.Highest.{ZeroFrom}
 use Rattle.groups.proofs.Highest.{zeros-down, top-is}
 use Rattle.groups.proofs.top.Statement.{statement}
 use Rattle.groups.proofs.top.Tie as tie
 
 abbrev Inv-loop : tie.InvT-loop
-Inv-loop gs n₀ n = (n ≤ length gs) × ZeroFrom gs n
+Inv-loop m gs n₀ n = (n ≤ length gs) × ZeroFrom gs n
 
 abbrev μ-loop : tie.MeasureT-loop
-μ-loop gs n₀ n = n
+μ-loop m gs n₀ n = n
 
 loop-holds : tie.Need-loop-holds Inv-loop μ-loop
-loop-holds c = (omega arith, λ i h. List·getD-eq-default (c .args .gs .now) 0 h)
+loop-holds c = c .pre
 
 returns : tie.Need-returns Inv-loop μ-loop
 returns c = let at = c .before .before .before .loop in top-is _ _ (at .inv .1) (omega arith) (λ h. c .if1 .taken)

@@ -1,42 +1,42 @@
 -- `numerals::text_size` meets its contract: the digits of the highest group, and three for each group below it.
 -- Assumes nothing.
-use Prim.Native.Nat.{ℕ, suc, _-_, _/_, _^_, _<_}
-use native.Mathlib.Nat.{mod-eq-of-lt, div-lt-iff-lt-mul, one-le-pow, pow-succ'}
 use native.Mathlib.Omega.{arith}
-use mathlib.Core.Path.{_≡_, _∙_}
+use mathlib.Core.Path.{_∙_, ap}
 use lib.ListN.{getD}
+use Prim.Native.Nat.{ℕ, _+_, _-_, _*_}
 use borrow.Author.Needs.{needs}
-use Rattle.figures.specs.Groups.{total}
-use Rattle.figures.proofs.Laws.Groups.{group-of, group-lt}
-use Rattle.figures.proofs.Laws.Text.{text-above, text-small}
+use Rattle.figures.proofs.Laws.Groups.{group-lt}
+use Rattle.figures.proofs.Laws.Text.{text-small}
+use Rattle.numerals.proofs.Heights.{size-none, size-some}
 use Rattle.numerals.proofs.text_size.Statement.{statement}
 use Rattle.numerals.proofs.text_size.Tie as tie
 
+returns : tie.Need-returns
+returns c = let s = c .before .before in size-none (s .args .g .now) (s .pre .0 .0) (s .args .n) (s .pre .0 .1) (c .if1 .taken)
+
+group-size-requires : tie.Need-group-size-requires
+group-size-requires c κs = let s = c .before .before .before in group-lt (s .args .g .now) (s .args .n - 1) (s .pre .0 .0) (omega arith)
+
 add-result : tie.Need-add-result
 add-result c =
-    let h = c .before .before .height in
-    omega (arith, c .group-size .ensures, h .ensures .0, text-small (getD (c .before .before .before .before .args .g .now) (h .result - 1) 0))
-
-returns : tie.Need-returns
-returns c =
     let s = c .before .before .before .before in
-    let gs = s .args .g .now in
-    let h = c .before .before .height in
-    let o : ℕ = h .result - 1 in
-    let e : suc o ≡ h .result = omega (arith, h .ensures .0) in
-    let l : total gs / 1000 ^ o < 1000 = div-lt-iff-lt-mul (one-le-pow o 1000 (omega arith)) .1 (rw (← pow-succ' 1000 o, e) (h .ensures .1 .0)) in
-    let x : getD gs o 0 ≡ total gs / 1000 ^ o = group-of gs o (s .pre .0) (omega (arith, h .ensures .0)) ∙ mod-eq-of-lt l in
-    rw (c .group-size .ensures, x) (text-above (total gs) o (omega (arith, h .ensures .0)) l (λ q. h .ensures .1 .1 (omega arith)))
+    omega (arith, c .group-size .ensures, text-small (getD (s .args .g .now) (s .args .n - 1) 0))
+
+returns-2 : tie.Need-returns-2
+returns-2 c =
+    let s = c .before .before .before .before in
+    ap (λ (k : ℕ). (s .args .n - 1) * 3 + k) (c .group-size .ensures) ∙
+    size-some (s .args .g .now) (s .pre .0 .0) (s .args .n) (s .pre .0 .1) (s .pre .1 .1) (c .before .before .if1 .left)
 
 pub text-size-spec : {M : Type 1} → statement M
 text-size-spec =
     tie.close
     (tie.spec
-    (λ c κs. search needs)
+    returns
     (λ c. search needs)
     (λ c. search needs)
     (λ c. search needs)
     (λ c. search needs)
-    (λ c κs. group-lt (c .before .before .before .args .g .now) (c .before .height .result - 1) (c .before .before .before .pre .0) (omega (arith, c .before .height .ensures .0)))
+    group-size-requires
     add-result
-    returns)
+    returns-2)

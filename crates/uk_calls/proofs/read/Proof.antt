@@ -14,7 +14,7 @@ read-spec =
     tie.close
     (tie.spec
     (λ c κs. search needs)
-    (λ c. sym (c .before .read-cardinal .ensures .2))
-    (λ c κs. let p = c .before .before .read-cardinal in (p .ensures .1, (omega (arith, p .ensures .2), omega (arith, p .ensures .2))))
+    (λ c. sym (c .before .read-cardinal .ensures .0 .2))
+    (λ c κs. let p = c .before .before .read-cardinal .ensures in ((p .0 .1, p .1), (omega (arith, p .0 .2), omega (arith, p .0 .2))))
     (λ c. search needs)
-    (λ c. let a = c .before .before .before .before .before .before .before .before .before .args in read-right (Says (ukrainian (a .settings .gender) (a .settings .case))) (a .said .now) _ (a .out .now) _ _ _ (c .before .before .before .before .before .read-cardinal .ensures .0) (c .before .before .put-seen .ensures)))
+    (λ c. let a = c .before .before .before .before .before .before .before .before .before .args in read-right (Says (ukrainian (a .settings .gender) (a .settings .case))) (a .said .now) _ (a .out .now) _ _ _ (c .before .before .before .before .before .read-cardinal .ensures .0 .0) (c .before .before .put-read .ensures)))

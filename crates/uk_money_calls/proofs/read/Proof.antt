@@ -15,7 +15,7 @@ returns c =
     let a = c .before .before .before .before .before .before .before .args in
     let p = c .before .before .before .read-money in
     seen-none (currencyAt (a .currency)) (a .settings .case) (a .said .now) (p .last .1 .1 .1 .0) (a .out .now) (a .out .now) _
-    (subst (λ (x : Reading). ReadMoney (currencyAt (a .currency)) (a .settings .case) (a .said .now) x (p .last .1 .1 .1 .0)) (c .before .enum-told .given .1) (p .ensures))
+    (subst (λ (x : Reading). ReadMoney (currencyAt (a .currency)) (a .settings .case) (a .said .now) x (p .last .1 .1 .1 .0)) (c .before .enum-told .given .1) (p .ensures .0))
     (record { number = c .refused .ensures .0; length = c .refused .ensures .1; buffer = refl })
 
 returns-2 : tie.Need-returns-2
@@ -24,17 +24,17 @@ returns-2 c =
     let p = c .before .before .before .before .before .before .before .before .read-money in
     let h = c .before .before .before .before .before .before .reading .given in
     seen-some (currencyAt (a .currency)) (a .settings .case) (a .said .now) (p .last .1 .1 .1 .0) (a .out .now) _ (c .before .before .put-money-text .result) (h .0 .0)
-    (subst (λ (x : Reading). ReadMoney (currencyAt (a .currency)) (a .settings .case) (a .said .now) x (p .last .1 .1 .1 .0)) (h .1) (p .ensures))
+    (subst (λ (x : Reading). ReadMoney (currencyAt (a .currency)) (a .settings .case) (a .said .now) x (p .last .1 .1 .1 .0)) (h .1) (p .ensures .0))
     (c .before .before .put-money-text .ensures)
 
 put-money-text-requires : tie.Need-put-money-text-requires
 put-money-text-requires c κs =
     let p = c .before .before .before .before .before .read-money .ensures in
     let h = c .before .before .before .reading .given in
-    (p .groups, ((omega (arith, p .size), omega (arith, p .size)), p .hundredths (h .0 .0) (h .1)))
+    ((p .0 .groups, p .1), ((omega (arith, p .0 .size), omega (arith, p .0 .size)), p .0 .hundredths (h .0 .0) (h .1)))
 
 pub read-spec : {M : Type 1} → statement M
 read-spec =
     tie.close
-    (tie.spec (λ c κs. search needs) (λ c. search needs) (λ c κs. search needs) (λ c. search needs) (λ c. sym (c .before .before .before .before .read-money .ensures .size)) put-money-text-requires
+    (tie.spec (λ c κs. search needs) (λ c. search needs) (λ c κs. search needs) (λ c. search needs) (λ c. sym (c .before .before .before .before .read-money .ensures .0 .size)) put-money-text-requires
     returns (λ c. search needs) returns-2)

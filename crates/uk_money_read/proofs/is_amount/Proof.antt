@@ -4,7 +4,6 @@ use borrow.Author.Needs.{needs}
 use mathlib.Core.Path.{sym, ap, _∙_}
 use mathlib.Core.Bool.{Bool}
 use Rattle.base.specs.Join.{joined}
-use Rattle.groups.proofs.Highest.{top-zero}
 use Rattle.uk_money.specs.Currencies.{currencyAt}
 use Rattle.uk_money.specs.Money.{moneyWords}
 use Rattle.uk_money_read.proofs.Found.{many-hundredths, above-limit, in-limits}
@@ -17,11 +16,10 @@ is-amount-spec =
     tie.close
     (tie.spec
     (λ c. let a = c .before .before .args in many-hundredths _ (a .hundredths) _ (a .s .now) (c .if1 .taken))
-    (λ c κs. search needs)
-    (λ c κs. (c .before .before .before .before .pre .2, c .before .top-arg .given .0, c .top .ensures .0))
-    (λ c κs. let s = c .before .before .before .before .before .before in (s .pre .0, s .pre .1, c .before .within .ensures .1 (c .if2 .taken), c .before .before .top .ensures .0 .zeros, omega (arith, c .before .before .before .before .if1 .left)))
-    (λ c. let a = c .before .before .before .before .before .before .before .args in let t = c .before .before .before .top .ensures in
+    (λ c κs. let p = c .before .before .pre in (p .0 .2, p .0 .3, p .1 .0))
+    (λ c κs. let p = c .before .before .before .before .pre in (p .0 .0, p .0 .1, c .before .within .ensures .1 (c .if2 .taken), p .1 .0 .zeros, omega (arith, c .before .before .if1 .left)))
+    (λ c. let a = c .before .before .before .before .before .args in
     in-limits _ (a .hundredths) _ (a .s .now) (c .is-phrase .result) _
-    (ap (λ (b : Bool). joined (moneyWords (currencyAt (a .currency)) (a .settings .case) b (a .gs .now) (a .hundredths))) (top-zero _ _ (t .0) (t .1)))
-    (sym (c .before .if2 .taken) ∙ c .before .before .within .ensures .0) (c .before .before .before .before .before .if1 .left) (c .is-phrase .ensures))
-    (λ c. let a = c .before .before .before .before .before .before .args in above-limit _ (a .hundredths) _ (a .s .now) (sym (c .if2 .left) ∙ c .before .within .ensures .0)))
+    (ap (λ (b : Bool). joined (moneyWords (currencyAt (a .currency)) (a .settings .case) b (a .gs .now) (a .hundredths))) (c .before .before .before .before .before .pre .1 .1))
+    (sym (c .before .if2 .taken) ∙ c .before .before .within .ensures .0) (c .before .before .before .if1 .left) (c .is-phrase .ensures))
+    (λ c. let a = c .before .before .before .before .args in above-limit _ (a .hundredths) _ (a .s .now) (sym (c .if2 .left) ∙ c .before .within .ensures .0)))

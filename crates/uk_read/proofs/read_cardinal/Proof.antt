@@ -1,55 +1,36 @@
 -- `uk_read::read_cardinal` meets its contract: what is made of the bytes is compared with the words that it has.
 -- Assumes nothing.
-use Prim.Native.Nat.{ℕ}
-use mathlib.Core.Path.{_≡_, sym, ap, _∙_, subst}
+use mathlib.Core.Path.{_≡_, sym, ap, _∙_}
 use mathlib.Core.Bool.{Bool}
-use mathlib.Core.List.{List, _++_, append-nil}
 use native.Mathlib.Omega.{arith}
 use borrow.Author.Needs.{needs}
 use lib.Dec.{ltb, eqb}
-use lib.ListN.{length, drop}
 use lib.Seq.{length-take-le}
 use Rattle.base.specs.Decides.{Decides}
 use Rattle.base.specs.Join.{joined}
-use Rattle.figures.specs.Groups.{total, Groups}
+use Rattle.figures.specs.Groups.{total}
 use Rattle.groups.proofs.Highest.{top-zero}
-use Rattle.plan.proofs.Laws.{from-is}
+use Rattle.plan.proofs.Laws.{from, from-is}
 use Rattle.tokens.specs.Tokens.{split}
 use Rattle.uk.specs.Pool.{ukPool}
 use Rattle.uk.specs.Ukrainian.{ukrainian}
 use Rattle.uk.specs.Cardinal.{cardinalWords}
-use Rattle.uk_read.specs.Reading.{sums, signed, unsigned}
+use Rattle.uk_read.specs.Reading.{unsigned}
 use Rattle.uk_read.proofs.Known.{lawful}
-use Rattle.uk_read.proofs.Falls.{sums-length}
-use Rattle.uk_read.proofs.Below.{zeros-groups}
+use Rattle.uk_read.proofs.Below.{All, all-read}
 use Rattle.uk_read.proofs.Compared.{read, sign-is, words-stand}
 use Rattle.uk_read.proofs.read_cardinal.Statement.{statement}
 use Rattle.uk_read.proofs.read_cardinal.Tie as tie
 
--- the groups and the sign that were made of the bytes
-record Made (s gs : List ℕ) (m : ℕ) : Type 0 where
-  pub size : length gs ≡ 22
-  pub small : Groups gs
-  pub sign : ltb 0 m ≡ signed (split s)
-  pub groups : gs ≡ sums 22 (unsigned (split s))
-
-made : (c : tie.After-groups) → Made (c .before .before .before .before .before .args .s .now) (c .groups .last .1 .1 .0) (c .before .before .before .minus .result)
+-- the groups that were made of the bytes
+made : (c : tie.After-groups) → All (unsigned (split (c .before .before .before .before .before .args .s .now))) (c .groups .last .1 .1 .0) (c .groups .result .orders)
 made c =
     let a = c .before .before .before .before .before in
     let s = a .args .s .now in
     let m = c .before .before .before .minus in
     let g = c .groups .ensures in
-    let z = a .pre .2 in
-    let e : c .groups .last .1 .1 .0 ≡ sums 22 (unsigned (split s)) =
-    g .0 .0 ∙ ap (λ (l : List ℕ). sums 22 (split l) ++ drop 22 (a .args .out .now)) (from-is (m .result) s)
-    ∙ ap (λ (l : List ℕ). sums 22 (split (drop (m .result) s)) ++ drop 22 l) z ∙ append-nil (sums 22 (split (drop (m .result) s)))
-    ∙ ap (sums 22) (m .ensures .1) in
-    record {
-      size = ap length e ∙ sums-length 22 (unsigned (split s));
-      small = g .0 .1 (subst Groups (sym z) (zeros-groups 22));
-      sign = sign-is (signed (split s)) (m .result) (m .ensures .0);
-      groups = e;
-    }
+    let e : split (from (m .result) s) ≡ unsigned (split s) = ap split (from-is (m .result) s) ∙ m .ensures .1 in
+    rw e at (all-read (split (from (m .result) s)) (a .args .out .now) (c .groups .last .1 .1 .0) (c .groups .result .orders) (a .pre .2) (g .0 .0) (g .0 .1) (g .1 .1 .0) (g .1 .1 .1))
 
 -- the groups are 0 just where the highest of them that is not stands nowhere
 zero-is : (c : tie.After-top) → eqb (c .top .result) 0 ≡ eqb (total (c .before .before .before .groups .last .1 .1 .0)) 0
@@ -69,13 +50,20 @@ decided c =
 returns : tie.Need-returns
 returns c =
     let a = c .before .before .before .before .before .before .before .before .before .before .before .before .before .before .before in
-    let m = made (c .before .before .before .before .before .before .before .before .before .before) in (
-      rw (c .seen-of .ensures)
-          (read _ (lawful (a .args .settings .gender) (a .args .settings .case) (a .pre .0) (a .pre .1)) (a .args .s .now) (c .before .before .before .before .before .before .before .before .before .before .groups .last .1 .1 .0) _ (m .size) (m .small) (m .sign) (m .groups) _ _
-          (zero-is (c .before .before .before .before .before .before .before)) (decided (c .before))),
-      m .small,
-      m .size,
+    let m = made (c .before .before .before .before .before .before .before .before .before .before) in
+    let sign = c .before .before .before .before .before .before .before .before .before .before .before .before .before .minus in (
+      (
+        rw (c .seen-of .ensures)
+            (read _ (lawful (a .args .settings .gender) (a .args .settings .case) (a .pre .0) (a .pre .1)) (a .args .s .now) (c .before .before .before .before .before .before .before .before .before .before .groups .last .1 .1 .0) _ (m .size) (m .small) (sign-is _ (sign .result) (sign .ensures .0)) (m .groups) _ _
+            (zero-is (c .before .before .before .before .before .before .before)) (decided (c .before))),
+        m .small,
+        m .size,
+      ),
+      c .before .before .before .before .before .before .before .top .ensures .0,
     )
+
+top-requires : tie.Need-top-requires
+top-requires c κs = let m = made (c .before .before) in (m .few, m .above)
 
 slice-aggregate-stands : tie.Need-slice-aggregate-stands
 slice-aggregate-stands c =
@@ -88,5 +76,5 @@ plan-cardinal-requires c κs = let s = c .before .before .before .before .before
 pub read-cardinal-spec : {M : Type 1} → statement M
 read-cardinal-spec =
     tie.close
-    (tie.spec (λ c κs. search needs) (λ c. search needs) (λ c. search needs) (λ c. search needs) (λ c κs. search needs) (λ c κs. search needs)
+    (tie.spec (λ c κs. search needs) (λ c. search needs) (λ c. search needs) (λ c. search needs) (λ c κs. search needs) top-requires
     (λ c. search needs) plan-cardinal-requires (λ c. search needs) slice-aggregate-stands (λ c κs. search needs) (λ c κs. search needs) returns)

@@ -1,13 +1,13 @@
--- `numerals::put_seen` meets its contract: each of the three is answered in its arm.
+-- `numerals::put_read` meets its contract: each of the three is answered in its arm.
 -- Assumes nothing.
 use borrow.Author.Needs.{needs}
 use Rattle.figures.specs.declared.Seen.the-variants.{Plain, Negative}
 use Rattle.numerals.proofs.Readings.{told}
-use Rattle.numerals.proofs.put_seen.Statement.{statement}
-use Rattle.numerals.proofs.put_seen.Tie as tie
+use Rattle.numerals.proofs.put_read.Statement.{statement}
+use Rattle.numerals.proofs.put_read.Tie as tie
 
-pub put-seen-spec : {M : Type 1} → statement M
-put-seen-spec =
+pub put-read-spec : {M : Type 1} → statement M
+put-read-spec =
     tie.close
     (tie.spec
     (λ c. search needs)
