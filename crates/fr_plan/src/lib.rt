@@ -1,5 +1,6 @@
 // The plans of French cardinals and ordinals, from groups of three digits, the lowest first.
 use fr::French;
+use plan::SEPARATORS;
 ghost use mathlib.Core.Path.{_≡_};
 ghost use mathlib.Core.Bool.{_&&_};
 ghost use mathlib.Core.List.{_∷_, _++_};
@@ -28,9 +29,6 @@ pub const PLAN: usize = 172;
 
 // A separator that says nothing.
 const ON: u8 = 0;
-
-// A plan's number is a place times this, and a separator.
-const SEPARATORS: u32 = 256;
 
 // Adds a word to a plan of which `at` are written. Unlike that of `plan::push`, its contract says which number is stored: an ordinal takes the
 // last one apart again.

@@ -13,6 +13,9 @@ ghost use Rattle.base.specs.Buffer.{over};
 ghost use Rattle.phrases_answers.specs.Answers.{settled, answerLine};
 ghost use Rattle.phrases_answers.specs.Wrote.{Wrote};
 
+// The bytes of the longest line that has an answer but `bad line`.
+pub const LONGEST_LINE: usize = 512;
+
 // A form of which the settings and what follows them are left.
 fn settle(kind: Kind, language: Language, s: &[u8], out: &mut [u8]) -> usize
     requires { ⌜ 12321 ≤ length (now out) ⌝ }
@@ -31,7 +34,7 @@ pub fn answer_line(s: &[u8], out: &mut [u8]) -> usize
     ensures { λ r. ⌜ (r ≡ length (answerLine (now (s .entry)))) × (now (out .exit) ≡ over (now (out .entry)) (answerLine (now (s .entry)))) ⌝ }
     ensures { λ r. ⌜ r ≤ 12321 ⌝ }
 {
-    if 512 < s.len() {
+    if LONGEST_LINE < s.len() {
         return bad(out);
     }
     let k = phrases_forms::cut(s);

@@ -1,6 +1,7 @@
 // Standard input answered on standard output, block by block.
 use libc::STDIN_FILENO;
 use libc::STDOUT_FILENO;
+use phrases_lines::HELD;
 ghost use mathlib.Core.Path.{_≡_};
 ghost use mathlib.Core.Bool.{true};
 ghost use Prim.Native.Nat.{_≤_};
@@ -47,7 +48,7 @@ fn passes(line: &mut [u8], out: &mut [u8]) -> usize
 
 // Answers every line of standard input.
 pub fn answer_input() {
-    let mut line = [0u8; 513];
+    let mut line = [0u8; HELD];
     let mut out = io::large_buffer();
     let held = passes(&mut line, &mut out);
     let used = phrases_lines::last(&line[..held], &mut out);

@@ -7,6 +7,12 @@ ghost use lib.ListN.{length, take, drop};
 ghost use Rattle.base.specs.Buffer.{over};
 ghost use Rattle.phrases_lines.specs.Program.{program, isLine, Answered};
 
+// How many bytes of a line are held: one more than the longest has, so that a longer one is known.
+pub const HELD: usize = 513;
+
+// How much room the next answer may need.
+const ROOM: usize = 12321;
+
 // How much of a line is held, and how much was written.
 pub struct Turn {
     pub held: usize,
@@ -34,7 +40,7 @@ fn take_byte(b: u8, line: &mut [u8], held: usize, out: &mut [u8], used: usize) -
             held: 0,
             used: used + w,
         }
-    } else if held < 513 {
+    } else if held < HELD {
         line[held] = b;
         Turn {
             held: held + 1,
@@ -59,7 +65,7 @@ pub fn feed(block: &[u8], line: &mut [u8], n: usize, out: &mut [u8]) -> Fed
     let mut used = 0;
     let mut at = 0;
     while at < block.len() {
-        if out.len() - used < 12321 {
+        if out.len() - used < ROOM {
             return Fed { at, held, used };
         }
         let t = take_byte(block[at], line, held, out, used);

@@ -14,12 +14,18 @@ ghost use Rattle.plan.specs.Phrase.{following, phrase as phraseOf};
 ghost use Rattle.plan.specs.Plan.{pieceOf, pieces, says, Added};
 ghost use Rattle.plan.specs.Stands.{stands as standsAs};
 
+// A plan's number is a place times this, and a separator.
+pub const SEPARATORS: u32 = 256;
+
+// What no piece is longer than, with its separator.
+const LONGEST: usize = 40;
+
 // Adds a piece to a plan of which `at` are written; returns how many are written then.
 pub fn push(plan: &mut [u32], at: usize, separator: u8, place: u16) -> usize
     requires { ⌜ at < length (now plan) ⌝ }
     ensures { λ r. ⌜ ((pool : List ℕ) → Added pool 1 (now (plan .entry)) at (now (plan .exit)) r ((separator, part pool place) ∷ [])) ⌝ }
 {
-    plan[at] = (place as u32) * 256 + (separator as u32);
+    plan[at] = (place as u32) * SEPARATORS + (separator as u32);
     at + 1
 }
 
@@ -27,8 +33,8 @@ pub fn push(plan: &mut [u32], at: usize, separator: u8, place: u16) -> usize
 fn piece_len(pool: &[u8], code: u32) -> usize
     ensures { λ r. ⌜ (r ≡ length (following (pieceOf (now (pool .entry)) code ∷ []))) × (r ≤ 40) ⌝ }
 {
-    let n = words::len(pool, code / 256);
-    if code % 256 == 0 { n } else { n + 1 }
+    let n = words::len(pool, code / SEPARATORS);
+    if code % SEPARATORS == 0 { n } else { n + 1 }
 }
 
 // The length of pieces that follow others.
@@ -54,7 +60,7 @@ fn len(pool: &[u8], plan: &[u32]) -> usize
     if plan.len() == 0 {
         return 0;
     }
-    let n = words::len(pool, plan[0] / 256);
+    let n = words::len(pool, plan[0] / SEPARATORS);
     n + following_len(pool, &plan[1..])
 }
 
@@ -63,12 +69,12 @@ fn put_piece(pool: &[u8], code: u32, out: &mut [u8]) -> usize
     requires { ⌜ length (following (pieceOf (now pool) code ∷ [])) ≤ length (now out) ⌝ }
     ensures { λ r. ⌜ (r ≡ length (following (pieceOf (now (pool .entry)) code ∷ []))) × (now (out .exit) ≡ over (now (out .entry)) (following (pieceOf (now (pool .entry)) code ∷ []))) ⌝ }
 {
-    let separator = code % 256;
+    let separator = code % SEPARATORS;
     if separator == 0 {
-        return words::put(pool, code / 256, out);
+        return words::put(pool, code / SEPARATORS, out);
     }
     out[0] = separator as u8;
-    let n = words::put(pool, code / 256, &mut out[1..]);
+    let n = words::put(pool, code / SEPARATORS, &mut out[1..]);
     n + 1
 }
 
@@ -95,7 +101,7 @@ fn put(pool: &[u8], plan: &[u32], out: &mut [u8]) -> usize
     if plan.len() == 0 {
         return 0;
     }
-    let k = words::put(pool, plan[0] / 256, out);
+    let k = words::put(pool, plan[0] / SEPARATORS, out);
     let n = put_following(pool, &plan[1..], &mut out[k..]);
     k + n
 }
@@ -126,7 +132,7 @@ pub fn speak(pool: &[u8], plan: &[u32], n: usize, out: &mut [u8]) -> Answer
     ensures { λ r. ⌜ Answers r (now (out .entry)) (now (out .exit)) (fitted (now (out .entry)) (phraseOf (says (now (pool .entry)) (now (plan .entry)) n))) ⌝ }
     ensures { λ r. ⌜ r .length ≤ 40 * n ⌝ }
 {
-    if out.len() < 40 * n {
+    if out.len() < LONGEST * n {
         return speak_measured(pool, plan, n, out);
     }
     let length = put(pool, &plan[..n], out);
@@ -137,9 +143,9 @@ pub fn speak(pool: &[u8], plan: &[u32], n: usize, out: &mut [u8]) -> Answer
 fn pass_piece(pool: &[u8], code: u32, s: &[u8]) -> usize
     ensures { λ r. ⌜ r ≡ passed (following (pieceOf (now (pool .entry)) code ∷ [])) (now (s .entry)) ⌝ }
 {
-    let separator = code % 256;
+    let separator = code % SEPARATORS;
     if separator == 0 {
-        return words::pass(pool, code / 256, s);
+        return words::pass(pool, code / SEPARATORS, s);
     }
     if s.len() == 0 {
         return 0;
@@ -147,7 +153,7 @@ fn pass_piece(pool: &[u8], code: u32, s: &[u8]) -> usize
     if s[0] as u32 != separator {
         return 0;
     }
-    let n = words::pass(pool, code / 256, &s[1..]);
+    let n = words::pass(pool, code / SEPARATORS, &s[1..]);
     if n == 0 { 0 } else { n + 1 }
 }
 
@@ -175,7 +181,7 @@ pub fn stands(pool: &[u8], plan: &[u32], s: &[u8]) -> bool
     if plan.len() == 0 {
         return s.len() == 0;
     }
-    let n = words::pass(pool, plan[0] / 256, s);
+    let n = words::pass(pool, plan[0] / SEPARATORS, s);
     if n == 0 {
         return false;
     }

@@ -18,6 +18,14 @@ ghost use Rattle.uk.specs.UkTables.{zeros, teensBases, teensFlexions, te
 ghost use Rattle.uk.specs.Settings.{inRange};
 ghost use Rattle.uk.specs.Ukrainian.{genderAt, unitForm, many as manyOf, agreedNumber, agreedCase, scaleEnding};
 
+// How many groups a number has, and its text digits: three for each group.
+pub const ORDERS: usize = 22;
+
+pub const DIGITS: usize = 66;
+
+// How many cases a form has.
+pub const CASES: usize = 6;
+
 // The settings of a Ukrainian call, in 01's numbers.
 pub struct Settings {
     pub gender: usize,

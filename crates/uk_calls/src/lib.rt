@@ -1,6 +1,9 @@
 // Ukrainian cardinals from bytes to bytes, both ways. No phrase has more than 12,320 bytes: the program keeps that much room for an answer.
 use base::Answer;
+use uk::DIGITS;
+use uk::ORDERS;
 use uk::Settings;
+use uk_plan::PLAN;
 ghost use mathlib.Core.Path.{_≡_};
 ghost use mathlib.Core.Bool.{true};
 ghost use Prim.Native.Nat.{_≤_, _<_};
@@ -14,7 +17,7 @@ fn refuse(gender: u32, number: u32, case: u32, text: &[u8]) -> u32
     ensures { λ r. ⌜ r ≡ refusedCardinal gender number case (now (text .entry)) ⌝ }
 {
     if uk::in_range(gender, number, case) {
-        figures::refusals::number_of(figures::refusals::judge(text, true, 66))
+        figures::refusals::number_of(figures::refusals::judge(text, true, DIGITS))
     } else {
         1
     }
@@ -30,7 +33,7 @@ fn spell(settings: Settings, text: &[u8], out: &mut [u8]) -> Answer
     let minus = figures::is_negative(text);
     let digits = figures::after_sign(text);
     let gs = groups::groups22(digits);
-    let mut plan = [0u32; 112];
+    let mut plan = [0u32; PLAN];
     let n = uk_plan::plan_cardinal(settings, zero, minus, groups::count(digits), &gs, &mut plan);
     uk::speak(&plan, n, out)
 }
@@ -40,7 +43,7 @@ fn read(settings: Settings, said: &[u8], out: &mut [u8]) -> Answer
     requires { ⌜ (settings .gender < 3) × (settings .case < 6) ⌝ }
     ensures { λ r. ⌜ ReadsAs (Means (settings .gender) (settings .case)) (now (said .entry)) r (now (out .entry)) (now (out .exit)) ⌝ }
 {
-    let mut gs = [0u16; 22];
+    let mut gs = [0u16; ORDERS];
     let read = uk_read::read_cardinal(settings, said, &mut gs);
     numerals::put_read(read, &gs, out)
 }

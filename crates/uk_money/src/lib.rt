@@ -2,6 +2,7 @@
 mod codes; // codes.rt: the 44 codes
 mod places; // places.rt: the nouns' tables, with the place of each text
 
+use uk::CASES;
 ghost use mathlib.Core.Path.{_≡_};
 ghost use Prim.Native.Nat.{_/_, _%_, _≤_, _<_};
 ghost use lib.ListN.{length};
@@ -67,7 +68,7 @@ pub fn agreed(t: usize, u: usize, case: usize) -> usize
     ensures { λ r. ⌜ (r < 12) × (r / 6 ≡ agreedNumber t u) × (r % 6 ≡ agreedCase t u case) ⌝ }
 {
     let a = uk::agreement(case, t, u);
-    6 * a.number + a.case
+    CASES * a.number + a.case
 }
 
 // The place of an ending, by class and where the form stands.

@@ -1,8 +1,10 @@
 // Ukrainian money from bytes to bytes, both ways: settings, code, text, sign, size and room are checked in 01's order. No phrase has more than
 // 12,320 bytes: the program keeps that much room for an answer.
 use base::Answer;
+use uk::ORDERS;
 use uk::Settings;
 use uk_money::CURRENCIES;
+use uk_money_plan::PLAN;
 use uk_money_read::Reading;
 ghost use Prim.Native.Nat.{_≤_, _<_};
 ghost use Rattle.base.specs.Answer.{fitted, replied, Answers, Reads as ReadsAs, ReadsUnless};
@@ -22,7 +24,7 @@ fn spell(settings: Settings, currency: usize, text: &[u8], out: &mut [u8]) -> An
     let gs = groups::groups22(digits);
     let n = groups::count(digits);
     let hundredths = figures::value_of(figures::money::hundredths_part(text)) as u32;
-    let mut plan = [0u32; 52];
+    let mut plan = [0u32; PLAN];
     let k = uk_money_plan::plan_money(settings, currency, zero, n, &gs, hundredths, &mut plan);
     uk::speak(&plan, k, out)
 }
@@ -32,7 +34,7 @@ fn read(settings: Settings, currency: usize, said: &[u8], out: &mut [u8]) -> Ans
     requires { ⌜ (settings .case < 6) × (currency < 44) ⌝ }
     ensures { λ r. ⌜ ReadsAs (Means (currencyAt currency) (settings .case)) (now (said .entry)) r (now (out .entry)) (now (out .exit)) ⌝ }
 {
-    let mut gs = [0u16; 22];
+    let mut gs = [0u16; ORDERS];
     let outcome = uk_money_read::read_money(settings, currency, said, &mut gs);
     let reading = outcome.reading;
     match reading {

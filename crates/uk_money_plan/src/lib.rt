@@ -1,5 +1,6 @@
 // The plan of an amount of Ukrainian money, from the groups of its whole part, lowest order first, and its hundredths.
 use plan::push;
+use uk::ORDERS;
 use uk::Settings;
 use uk_plan::ON;
 use uk_plan::SPACE;
@@ -19,6 +20,9 @@ ghost use Rattle.uk_money.specs.Nouns.{Name};
 ghost use Rattle.uk_money.specs.Currencies.{currencyAt};
 ghost use Rattle.uk_money.specs.Money.{agreedName, countWords, moneyWords};
 ghost use Rattle.uk_money.specs.Rows.{adjectiveIn, Row};
+
+// How many pieces a plan has room for: no amount has more than five for each of seven groups and five for its noun, and ten for its hundredths.
+pub const PLAN: usize = 52;
 
 // The number of the adjectives' class.
 const ADJECTIVE: usize = 4;
@@ -66,7 +70,7 @@ fn say_count(
     case: usize,
     zero: bool,
     n: usize,
-    gs: &[u16; 22],
+    gs: &[u16; ORDERS],
     plan: &mut [u32],
     at: usize,
 ) -> usize
@@ -88,7 +92,7 @@ fn say_main(
     currency: usize,
     zero: bool,
     n: usize,
-    gs: &[u16; 22],
+    gs: &[u16; ORDERS],
     plan: &mut [u32],
     at: usize,
 ) -> usize
@@ -105,7 +109,7 @@ fn say_fraction(case: usize, currency: usize, hundredths: u32, plan: &mut [u32],
     ensures { λ r. ⌜ Told ukPool 10 (now (plan .entry)) at (now (plan .exit)) r (countWords (currencyAt currency .fraction) case false (hundredths ∷ [])) ⌝ }
 {
     let row = uk_money::fraction_row(currency);
-    let mut gs = [0u16; 22];
+    let mut gs = [0u16; ORDERS];
     gs[0] = hundredths as u16;
     say_count(&row, case, false, 1, &gs, plan, at)
 }
@@ -117,7 +121,7 @@ pub fn plan_money(
     currency: usize,
     zero: bool,
     n: usize,
-    gs: &[u16; 22],
+    gs: &[u16; ORDERS],
     hundredths: u32,
     plan: &mut [u32],
 ) -> usize

@@ -1,7 +1,9 @@
 // The reader of Ukrainian money. It takes any bytes word by word, makes a whole part of the number words before the first noun and hundredths
 // of those after it, and compares the words that these have under the settings, planned as the speller plans them, with the bytes; then the
 // same for hundredths alone.
+use uk::ORDERS;
 use uk::Settings;
+use uk_money_plan::PLAN;
 ghost use mathlib.Core.Path.{_≡_};
 ghost use mathlib.Core.Bool.{true};
 ghost use Prim.Native.Nat.{_+_, _*_, _≤_, _<_};
@@ -18,9 +20,6 @@ ghost use Rattle.uk_money.specs.Currencies.{currencyAt};
 ghost use Rattle.uk_money.specs.Money.{moneyWords};
 ghost use Rattle.uk_money_read.specs.Behind.{behind};
 ghost use Rattle.uk_money_read.specs.Promise.{ReadMoney};
-
-// The orders of number words.
-const ORDERS: usize = 22;
 
 // The limit of money, 18446744073709551615: its orders, its highest group, and the digits below that by nines.
 const LIMIT_ORDERS: usize = 7;
@@ -65,7 +64,7 @@ fn nouns(s: &[u8]) -> usize
 fn lowest(s: &[u8]) -> u32
     ensures { λ r. ⌜ r ≡ getD (sums 22 (split (now (s .entry)))) 0 0 ⌝ }
 {
-    let mut gs = [0u16; 22];
+    let mut gs = [0u16; ORDERS];
     uk_read::groups(ORDERS, s, &mut gs);
     gs[0] as u32
 }
@@ -78,7 +77,7 @@ fn nine(a: u16, b: u16, c: u16) -> u64
 }
 
 // Whether the number with these groups, of n orders, is within the limit of money.
-fn within(n: usize, gs: &[u16; 22]) -> bool
+fn within(n: usize, gs: &[u16; ORDERS]) -> bool
     requires { ⌜ Groups (now gs) × (length (now gs) ≡ 22) × Highest (now gs) n ⌝ }
     ensures { λ r. ⌜ (r ≡ leb (total (now (gs .entry))) moneyLimit) × (r ≡ true → n ≤ 7) ⌝ }
 {
@@ -101,14 +100,14 @@ fn is_phrase(
     settings: Settings,
     currency: usize,
     n: usize,
-    gs: &[u16; 22],
+    gs: &[u16; ORDERS],
     hundredths: u32,
     s: &[u8],
 ) -> bool
     requires { ⌜ (settings .case < 6) × (currency < 44) × (n ≤ 7) × ZeroFrom (now gs) n × (hundredths < 100) ⌝ }
     ensures { λ r. ⌜ Decides r (joined (moneyWords (currencyAt currency) (settings .case) (eqb n 0) (now (gs .entry)) hundredths) ≡ now (s .entry)) ⌝ }
 {
-    let mut plan = [0u32; 52];
+    let mut plan = [0u32; PLAN];
     let k = uk_money_plan::plan_money(settings, currency, n == 0, n, gs, hundredths, &mut plan);
     uk::stands(&plan[..k], s)
 }
@@ -118,7 +117,7 @@ fn is_amount(
     settings: Settings,
     currency: usize,
     n: usize,
-    gs: &[u16; 22],
+    gs: &[u16; ORDERS],
     hundredths: u32,
     s: &[u8],
 ) -> bool
@@ -137,7 +136,7 @@ fn is_amount(
 }
 
 // Any bytes, under these settings and for a currency: what they are by the grammar, with the groups of the whole part in out.
-pub fn read_money(settings: Settings, currency: usize, s: &[u8], out: &mut [u16; 22]) -> Outcome
+pub fn read_money(settings: Settings, currency: usize, s: &[u8], out: &mut [u16; ORDERS]) -> Outcome
     requires { ⌜ (settings .case < 6) × (currency < 44) × (now out ≡ replicate 22 0) ⌝ }
     ensures { λ r. ⌜ ReadMoney (currencyAt currency) (settings .case) (now (s .entry)) (r .reading) (now (out .exit)) ⌝ }
     ensures { λ r. ⌜ Highest (now (out .exit)) (r .orders) ⌝ }
@@ -155,7 +154,7 @@ pub fn read_money(settings: Settings, currency: usize, s: &[u8], out: &mut [u16;
         };
     }
     let alone = out[0] as u32;
-    *out = [0u16; 22];
+    *out = [0u16; ORDERS];
     if is_amount(settings, currency, 0, out, alone, s) {
         return Outcome {
             reading: Reading::Amount(alone),

@@ -14,6 +14,9 @@ ghost use Rattle.figures.specs.Text.{digits, value};
 ghost use Rattle.uk_ordinal.specs.Ordinal.{soft};
 ghost use Rattle.uk_ordinal.specs.DigitOrdinal.{digitOrdinal};
 
+// More bytes than any ending has.
+const LONGER: usize = 40;
+
 // Whether the ordinal of what the digits mean has a soft ending: the last is 3, and the one before it is not 1.
 fn is_soft(text: &[u8]) -> bool
     requires { ⌜ (digits (now text) ≡ true) × (0 < length (now text)) ⌝ }
@@ -49,7 +52,7 @@ pub fn say(settings: Settings, text: &[u8], out: &mut [u8]) -> Answer
 {
     let ending = uk_ordinal::short_ending(is_soft(text), settings);
     let n = text.len() + 1;
-    if out.len() < n + 40 {
+    if out.len() < n + LONGER {
         let size = n + uk_ordinal::short_len(ending);
         if out.len() < size {
             return Answer {

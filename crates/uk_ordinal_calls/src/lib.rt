@@ -3,7 +3,11 @@
 mod digits; // digits.rt: digit ordinals
 
 use base::Answer;
+use uk::DIGITS;
+use uk::ORDERS;
 use uk::Settings;
+use uk_ordinal_plan::PLAN;
+use uk_ordinal_plan::YEAR_PLAN;
 ghost use mathlib.Core.Path.{_≡_};
 ghost use mathlib.Core.Bool.{true};
 ghost use Prim.Native.Nat.{_≤_, _<_};
@@ -27,7 +31,7 @@ fn refuse_ordinal(gender: u32, number: u32, case: u32, text: &[u8]) -> u32
     ensures { λ r. ⌜ r ≡ unlessSettings gender number case (refusedOrdinal (now (text .entry))) ⌝ }
 {
     if uk::in_range(gender, number, case) {
-        figures::refusals::number_of(figures::refusals::judge(text, false, 66))
+        figures::refusals::number_of(figures::refusals::judge(text, false, DIGITS))
     } else {
         1
     }
@@ -51,7 +55,7 @@ fn say_ordinal(settings: Settings, text: &[u8], out: &mut [u8]) -> Answer
     ensures { λ r. ⌜ r .length ≤ 12320 ⌝ }
 {
     let gs = groups::groups22(text);
-    let mut plan = [0u32; 116];
+    let mut plan = [0u32; PLAN];
     let n = uk_ordinal_plan::plan_ordinal(settings, groups::count(text), &gs, &mut plan);
     uk::speak(&plan, n, out)
 }
@@ -62,9 +66,9 @@ fn say_year(settings: Settings, year: i64, out: &mut [u8]) -> Answer
     ensures { λ r. ⌜ Answers r (now (out .entry)) (now (out .exit)) (fitted (now (out .entry)) (yearPhrase (settings .number) (settings .case) year)) ⌝ }
     ensures { λ r. ⌜ r .length ≤ 12320 ⌝ }
 {
-    let mut gs = [0u16; 22];
+    let mut gs = [0u16; ORDERS];
     let k = groups::groups_from(figures::year::magnitude(year), &mut gs);
-    let mut plan = [0u32; 119];
+    let mut plan = [0u32; YEAR_PLAN];
     let n = uk_ordinal_plan::plan_year(settings, is_early(year), k, &gs, &mut plan);
     uk::speak(&plan, n, out)
 }

@@ -3,6 +3,7 @@ mod compound;
 mod plain;
 
 use plan::push;
+use uk::ORDERS;
 use uk::Settings;
 use uk_plan::SPACE;
 ghost use mathlib.Core.Path.{_≡_};
@@ -22,23 +23,29 @@ ghost use Rattle.uk_ordinal.specs.Year.{eraWords, yearWords};
 ghost use Rattle.uk_ordinal_plan.specs.Said.{Spoken};
 ghost use Rattle.uk_ordinal_plan.specs.Groups.{Groups22};
 
-// The order of the lowest group that is not zero; 22 where there is none.
-fn lowest(gs: &[u16; 22]) -> usize
+// How many pieces the plan of an ordinal has room for, and that of a year: the groups above the lowest have five each, the lowest has six, a year
+// three more.
+pub const PLAN: usize = 116;
+
+pub const YEAR_PLAN: usize = 119;
+
+// The order of the lowest group that is not zero; ORDERS where there is none.
+fn lowest(gs: &[u16; ORDERS]) -> usize
     requires { ⌜ length (now gs) ≡ 22 ⌝ }
     ensures { λ r. ⌜ (r ≡ lowestOf (now (gs .entry))) × (r ≤ 22) ⌝ }
 {
     let mut i: usize = 0;
-    while i < 22 {
+    while i < ORDERS {
         if gs[i] != 0 {
             return i;
         }
         i += 1;
     }
-    22
+    ORDERS
 }
 
 // The groups above the lowest, as nominative cardinals.
-fn higher(n: usize, gs: &[u16; 22], order: usize, plan: &mut [u32], at: usize) -> usize
+fn higher(n: usize, gs: &[u16; ORDERS], order: usize, plan: &mut [u32], at: usize) -> usize
     requires { ⌜ (order < 22) × (n ≤ 22) × ZeroFrom (now gs) n × (at + 110 ≤ length (now plan)) ⌝ }
     ensures { λ r. ⌜ Told ukPool 110 (now (plan .entry)) at (now (plan .exit)) r (groupsBelow (ukrainian 0 0) 22 (set (now (gs .entry)) order 0)) ⌝ }
 {
@@ -71,13 +78,19 @@ fn lowest_words(
 }
 
 // Adds an ordinal's words to a plan.
-fn say_ordinal(settings: Settings, n: usize, gs: &[u16; 22], plan: &mut [u32], at: usize) -> usize
+fn say_ordinal(
+    settings: Settings,
+    n: usize,
+    gs: &[u16; ORDERS],
+    plan: &mut [u32],
+    at: usize,
+) -> usize
     requires { ⌜ ((settings .gender < 3) × (settings .number < 2) × (settings .case < 6)) × Groups22 (now gs) × Highest (now gs) n × (at + 116 ≤ length (now plan)) ⌝ }
     ensures { λ r. ⌜ Spoken ukPool 116 (now (plan .entry)) at (now (plan .exit)) r (ordinalWords (settings .gender) (settings .number) (settings .case) (now (gs .entry))) ⌝ }
 {
     let ending = uk_ordinal::ending(uk_ordinal::is_soft(gs[0]), settings);
     let order = lowest(gs);
-    if order == 22 {
+    if order == ORDERS {
         return plain::zero_word(ending, plan, at);
     }
     let g = base::wide_group(gs[order]);
@@ -101,7 +114,7 @@ fn say_era(early: bool, plan: &mut [u32], at: usize) -> usize
 }
 
 // The plan of an ordinal under these settings: it says the ordinal's words, joined.
-pub fn plan_ordinal(settings: Settings, n: usize, gs: &[u16; 22], plan: &mut [u32]) -> usize
+pub fn plan_ordinal(settings: Settings, n: usize, gs: &[u16; ORDERS], plan: &mut [u32]) -> usize
     requires { ⌜ ((settings .gender < 3) × (settings .number < 2) × (settings .case < 6)) × Groups22 (now gs) × Highest (now gs) n × (116 ≤ length (now plan)) ⌝ }
     ensures { λ r. ⌜ (r ≤ 116) × (phrase (says ukPool (now (plan .exit)) r) ≡ joined (ordinalWords (settings .gender) (settings .number) (settings .case) (now (gs .entry)))) ⌝ }
 {
@@ -113,7 +126,7 @@ pub fn plan_year(
     settings: Settings,
     early: bool,
     n: usize,
-    gs: &[u16; 22],
+    gs: &[u16; ORDERS],
     plan: &mut [u32],
 ) -> usize
     requires { ⌜ ((settings .gender < 3) × (settings .number < 2) × (settings .case < 6)) × Groups22 (now gs) × Highest (now gs) n × (119 ≤ length (now plan)) ⌝ }

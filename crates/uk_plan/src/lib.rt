@@ -1,5 +1,6 @@
 // The plan of a Ukrainian cardinal, from its groups of three digits, lowest order first.
 use plan::push;
+use uk::ORDERS;
 use uk::Settings;
 ghost use mathlib.Core.Path.{_≡_};
 ghost use Prim.Native.Nat.{_+_, _-_, _*_, _≤_, _<_};
@@ -15,6 +16,9 @@ ghost use Rattle.uk.specs.UkTables.{hundreds};
 ghost use Rattle.uk.specs.Rules.{opt, lowWords, nounWords};
 ghost use Rattle.uk.specs.Ukrainian.{unitForm, ukrainian};
 ghost use Rattle.uk.specs.Cardinal.{groupOf, groupsBelow, signWords, cardinalWords};
+
+// How many pieces a plan has room for: no cardinal has more than five for each group, and one.
+pub const PLAN: usize = 112;
 
 // The separators of a plan's words: a space, or none where a word goes on.
 pub const SPACE: u8 = b' ';
@@ -93,7 +97,7 @@ fn groups(
     gender: usize,
     case: usize,
     n: usize,
-    gs: &[u16; 22],
+    gs: &[u16; ORDERS],
     plan: &mut [u32],
     at: usize,
 ) -> usize
@@ -112,7 +116,7 @@ fn groups(
 pub fn say_groups(
     settings: Settings,
     n: usize,
-    gs: &[u16; 22],
+    gs: &[u16; ORDERS],
     plan: &mut [u32],
     at: usize,
 ) -> usize
@@ -139,7 +143,7 @@ pub fn say_cardinal(
     zero: bool,
     negative: bool,
     n: usize,
-    gs: &[u16; 22],
+    gs: &[u16; ORDERS],
     plan: &mut [u32],
     at: usize,
 ) -> usize
@@ -159,7 +163,7 @@ pub fn plan_cardinal(
     zero: bool,
     negative: bool,
     n: usize,
-    gs: &[u16; 22],
+    gs: &[u16; ORDERS],
     plan: &mut [u32],
 ) -> usize
     requires { ⌜ (settings .gender < 3) × (settings .case < 6) × (n ≤ 22) × ZeroFrom (now gs) n × (111 ≤ length (now plan)) ⌝ }

@@ -1,7 +1,9 @@
 // The reader of Ukrainian cardinals. It takes any bytes word by word, makes a sign and groups of them, and compares the words that these have
 // under the settings, planned as the speller plans them, with the bytes.
 use figures::Read;
+use uk::ORDERS;
 use uk::Settings;
+use uk_plan::PLAN;
 ghost use mathlib.Core.Path.{_≡_};
 ghost use mathlib.Core.Bool.{not};
 ghost use mathlib.Core.List.{_++_};
@@ -70,7 +72,7 @@ fn first_group(s: &[u8]) -> Group
 
 // The groups of the orders below k, from the highest down; each call has a lower order and the part of the text behind its group.
 // The orders that are not there stay 0. Below order 0 no word is taken.
-pub fn groups(k: usize, s: &[u8], out: &mut [u16; 22]) -> Span
+pub fn groups(k: usize, s: &[u8], out: &mut [u16; ORDERS]) -> Span
     requires { ⌜ (k ≤ 22) × (take k (now out) ≡ replicate k 0) ⌝ }
     ensures { λ r. ⌜ (now (out .exit) ≡ sums k (split (now (s .entry))) ++ drop k (now (out .entry))) × (Groups (now (out .entry)) → Groups (now (out .exit))) ⌝ }
     ensures { λ r. ⌜ (split (drop (r .bytes) (now (s .entry))) ≡ left k (split (now (s .entry)))) × (r .bytes ≤ length (now (s .entry))) ⌝ }
@@ -114,16 +116,16 @@ fn minus(s: &[u8]) -> usize
 }
 
 // Any bytes, under these settings: what they are by the grammar, with the groups in out.
-pub fn read_cardinal(settings: Settings, s: &[u8], out: &mut [u16; 22]) -> Read
+pub fn read_cardinal(settings: Settings, s: &[u8], out: &mut [u16; ORDERS]) -> Read
     requires { ⌜ (settings .gender < 3) × (settings .case < 6) × (now out ≡ replicate 22 0) ⌝ }
     ensures { λ r. ⌜ ReadOf (Says (ukrainian (settings .gender) (settings .case)) (now (s .entry))) (r .seen) (now (out .exit)) × Groups (now (out .exit)) × (length (now (out .exit)) ≡ 22) ⌝ }
     ensures { λ r. ⌜ Highest (now (out .exit)) (r .orders) ⌝ }
 {
     let m = minus(s);
-    let span = groups(22, &s[m..], out);
+    let span = groups(ORDERS, &s[m..], out);
     let n = groups::top(span.orders, out);
     let zero = n == 0;
-    let mut plan = [0u32; 112];
+    let mut plan = [0u32; PLAN];
     let k = uk_plan::plan_cardinal(settings, zero, 0 < m, n, out, &mut plan);
     let stands = uk::stands(&plan[..k], s);
     let seen = figures::seen_of(stands, zero, 0 < m);

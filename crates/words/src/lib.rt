@@ -15,6 +15,9 @@ ghost use Rattle.base.specs.Buffer.{over};
 ghost use Rattle.base.specs.Front.{begins as beginsWith, passed};
 ghost use Rattle.words.specs.Part.{part as partOf};
 
+// More bytes than any text has: a place is half of where its text starts, times this, and the text's length.
+pub const LONGER: u32 = 40;
+
 // What is left of a pool from a place on.
 fn rest(pool: &[u8], at: usize) -> &[u8]
     ensures { λ r. ⌜ now r ≡ drop at (now (pool .entry)) ⌝ }
@@ -30,8 +33,8 @@ fn rest(pool: &[u8], at: usize) -> &[u8]
 pub fn part(pool: &[u8], place: u32) -> &[u8]
     ensures { λ r. ⌜ (now r ≡ partOf (now (pool .entry)) place) × (length (now r) < 40) ⌝ }
 {
-    let a = 2 * (place / 40) as usize;
-    let e = a + (place % 40) as usize;
+    let a = 2 * (place / LONGER) as usize;
+    let e = a + (place % LONGER) as usize;
     if pool.len() < e {
         return rest(pool, a);
     }
