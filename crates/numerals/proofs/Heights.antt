@@ -1,7 +1,7 @@
 -- The highest group that is not 0 tells the length of a number's text.
 -- Assumes nothing.
 use Prim.Native.Nat.{ℕ, zero, suc, _+_, _-_, _*_, _/_, _%_, _^_, _<_, _≤_}
-use mathlib.Core.Path.{_≡_, refl, _∙_}
+use mathlib.Core.Path.{_≡_, _∙_}
 use mathlib.Core.List.{List, [], _∷_}
 use native.Mathlib.Nat.{mod-eq-of-lt, div-lt-iff-lt-mul, one-le-pow, pow-succ'}
 use native.Mathlib.Omega.{arith}

@@ -30,7 +30,7 @@ pub +groups-spec : {M : Type 1} → statement M
     (λ c. omega (arith, c .before .before .before .pre .1 .0))
     (λ c. omega (arith, c .before .before .before .pre .1 .0))
     (λ c. omega (arith, c .before .first-group .ensures .1))
-    (λ c. c .before .first-group .ensures .1)
+    (λ c. omega (arith, c .before .first-group .ensures .1))
     (λ c. search needs)
     (λ c κs.
     let s = c .before .before .before .before .before in

@@ -1,9 +1,9 @@
 -- `numerals::text_size` meets its contract: the digits of the highest group, and three for each group below it.
 -- Assumes nothing.
+use Prim.Native.Nat.{ℕ, _+_, _-_, _*_}
 use native.Mathlib.Omega.{arith}
 use mathlib.Core.Path.{_∙_, ap}
 use lib.ListN.{getD}
-use Prim.Native.Nat.{ℕ, _+_, _-_, _*_}
 use borrow.Author.Needs.{needs}
 use Rattle.figures.proofs.Laws.Groups.{group-lt}
 use Rattle.figures.proofs.Laws.Text.{text-small}

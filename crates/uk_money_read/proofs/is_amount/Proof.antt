@@ -1,6 +1,5 @@
 -- `uk_money_read::is_amount` meets its contract.
 -- Assumes nothing.
-use borrow.Author.Needs.{needs}
 use mathlib.Core.Path.{sym, ap, _∙_}
 use mathlib.Core.Bool.{Bool}
 use Rattle.base.specs.Join.{joined}
