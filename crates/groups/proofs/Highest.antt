@@ -10,7 +10,7 @@ use mathlib.Core.List.{List, [], _∷_, _++_}
 use mathlib.Core.Path.{_≡_, refl, sym, _∙_}
 use borrow.Author.Tests.{eq-eqb, ne-eqb}
 use lib.Dec.{eqb}
-use lib.ListN.{length, getD, take, drop, set, replicate, length-append, drop-of-length-le, List·getD-eq-default}
+use lib.ListN.{length, getD, take, drop, set, replicate, length-append, List·getD-eq-default}
 use lib.Seq.{drop-cons, getD-set-other}
 use Rattle.figures.specs.Groups.{groupsOf, total, Groups}
 use Rattle.figures.specs.Text.{digits, plain, value}
@@ -143,18 +143,3 @@ set-zeros gs n i v h z j l = getD-set-other gs i j v 0 (λ e. omega arith) ∙ z
 -- the groups from an order on: one of them, and the others
 pub total-from : (gs : List ℕ) (i : ℕ) → i < length gs → total (drop i gs) ≡ getD gs i 0 + 1000 * total (drop (i + 1) gs)
 total-from gs i h = rw (drop-cons gs i 0 h, add-one i) refl
-
--- a search for one that is not 0: those from k to i are 0
-module _ (gs : List ℕ) (k i : ℕ) (e : eqb (total (drop k gs)) 0 ≡ eqb (total (drop i gs)) 0) where
-  times : (n : ℕ) → eqb (0 + 1000 * n) 0 ≡ eqb n 0
-  times zero = refl
-  times (suc n) = ne-eqb (0 + 1000 * suc n) 0 (λ z. omega arith) ∙ sym (ne-eqb (suc n) 0 (λ z. omega arith))
-
-  pub zero-on : i < length gs → getD gs i 0 ≡ 0 → eqb (total (drop k gs)) 0 ≡ eqb (total (drop (i + 1) gs)) 0
-  zero-on h z = e ∙ rw (total-from gs i h, z) (times (total (drop (i + 1) gs)))
-
-  pub zero-off : i < length gs → (getD gs i 0 ≡ 0 → ⊥) → false ≡ eqb (total (drop k gs)) 0
-  zero-off h n = sym (e ∙ ne-eqb (total (drop i gs)) 0 (λ z. n (omega (arith, total-from gs i h))))
-
-  pub zero-all : length gs ≤ i → true ≡ eqb (total (drop k gs)) 0
-  zero-all h = sym (e ∙ rw (drop-of-length-le gs {i = i} h) refl)

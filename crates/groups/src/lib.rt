@@ -4,7 +4,7 @@ ghost use mathlib.Core.Bool.{true};
 ghost use mathlib.Core.List.{[], _∷_};
 ghost use Prim.Native.Nat.{_+_, _-_, _/_, _≤_, _<_};
 ghost use lib.Dec.{eqb};
-ghost use lib.ListN.{length, take, drop, getD, replicate};
+ghost use lib.ListN.{length, take, getD, replicate};
 ghost use Rattle.figures.specs.Text.{digits, value};
 ghost use Rattle.figures.specs.Groups.{groupsOf, total, Groups};
 ghost use Rattle.groups.specs.Highest.{ZeroFrom, Highest};
@@ -121,19 +121,4 @@ pub fn is(n: usize, gs: &[u16], k: u16) -> bool
     ensures { λ r. ⌜ r ≡ eqb (total (now (gs .entry))) k ⌝ }
 {
     if 1 < n { false } else { gs[0] == k }
-}
-
-// Whether the groups from order k on are 0.
-pub fn zero_from(k: usize, gs: &[u16]) -> bool
-    requires { ⌜ k ≤ length (now gs) ⌝ }
-    ensures { λ r. ⌜ r ≡ eqb (total (drop k (now (gs .entry)))) 0 ⌝ }
-{
-    let mut i = k;
-    while i < gs.len() {
-        if gs[i] != 0 {
-            return false;
-        }
-        i += 1;
-    }
-    true
 }

@@ -240,7 +240,7 @@ module _ (s : List ℕ) (h : Bytes s) (i k w : ℕ) (b : Begun s i k) (e : w ≡
       let o = ended 8 (drop i s) here (rw e at z) in
       let v : whole (firstWord (drop i s)) ≡ lastWhole (letters 8 w) w = o .0 ∙ rw (sym e) refl in
       let a : afterWord s ≡ drop (i + suc (letters 8 w)) s = b .1 ∙ o .1 ∙ rw (sym e) (drop-drop (suc (letters 8 w)) i s) in
-      ((f ∙ ap (λ (m : ℕ). (k + m) % 823685) (sym v) ∙ sym (b .0), omega arith), go (ltb (i + letters 8 w) (length s)) refl g (within z l) a)
+      let r = go (ltb (i + letters 8 w) (length s)) refl g (within z l) a in (f ∙ ap (λ (m : ℕ). (k + m) % 823685) (sym v) ∙ sym (b .0), r .0, r .1, r .2)
     where
       p : ℕ
       p = letters 8 w

@@ -48,4 +48,4 @@ Begun s i k = (key (firstWord s) ≡ (k + whole (firstWord (drop i s))) % 823685
 
 -- k is the key of the first word of s, and the next word starts at n
 abbrev pub Took : List ℕ → ℕ → ℕ → Type 0
-Took s k n = ((k ≡ key (firstWord s)) × (k < 823685)) × ((drop n s ≡ afterWord s) × (n ≤ length s) × (0 < length s → 0 < n))
+Took s k n = (k ≡ key (firstWord s)) × (drop n s ≡ afterWord s) × (n ≤ length s) × (0 < length s → 0 < n)

@@ -23,7 +23,7 @@ const KEYS: u64 = 823685;
 const END: u64 = 62;
 
 // The key of the empty word.
-pub const EMPTY: u32 = 62;
+pub const EMPTY: u32 = END as u32;
 
 const SIXTY_FOURS: u64 = 0x4040_4040_4040_4040;
 

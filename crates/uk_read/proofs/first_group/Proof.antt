@@ -32,10 +32,10 @@ known c =
     let f = c .before .first .ensures in
     let h : at < length s = c .before .before .before .loop-test .taken in
     let l = from-length at s in (
-      c .meaning .ensures ∙ ap meaningOf (f .0 .0),
-      word-at s at (c .before .first .result .next) h (f .1 .0),
-      omega (arith, f .1 .1, l),
-      f .1 .2 (omega (arith, l)),
+      c .meaning .ensures ∙ ap meaningOf (f .0),
+      word-at s at (c .before .first .result .next) h (f .1),
+      omega (arith, f .2, l),
+      f .3 (omega (arith, l)),
     )
 
 answers : (s : List ℕ) (v k at : ℕ) (ws : List Word) → v < 1000 → taken 0 (split s) ≡ closed v k ws → split (drop at s) ≡ ws → at ≤ length s

@@ -16,7 +16,7 @@ minus-spec =
     (λ c κs. search needs)
     (λ c.
     let f = c .before .before .first .ensures in
-    sign-some (c .before .before .before .before .before .args .s .now) _ (c .before .before .first .result .next) (c .before .before .before .if1 .left) (c .before .meaning .ensures ∙ ap meaningOf (f .0 .0)) (c .if2 .taken) (f .1 .0) (f .1 .1) (f .1 .2))
+    sign-some (c .before .before .before .before .before .args .s .now) _ (c .before .before .first .result .next) (c .before .before .before .if1 .left) (c .before .meaning .ensures ∙ ap meaningOf (f .0)) (c .if2 .taken) (f .1) (f .2) (f .3))
     (λ c.
     let f = c .before .before .first .ensures in
-    sign-other (c .before .before .before .before .before .args .s .now) _ 0 (c .before .before .before .if1 .left) (c .before .meaning .ensures ∙ ap meaningOf (f .0 .0)) (c .if2 .left)))
+    sign-other (c .before .before .before .before .before .args .s .now) _ 0 (c .before .before .before .if1 .left) (c .before .meaning .ensures ∙ ap meaningOf (f .0)) (c .if2 .left)))

@@ -17,5 +17,5 @@ word-at-spec =
     (λ c. search needs)
     (λ c κs. search needs)
     (λ c. let a = c .before .before .before .before .args in let f = c .first .ensures in
-    let e = word-here (a .s .now) (a .at) (c .first .result) (f .0 .0) (f .1 .0) (f .1 .1) in (e, omega (arith, ap (λ (t : Token). t .next) e, goes-within (a .s .now) (a .at) (omega arith))))
+    let e = word-here (a .s .now) (a .at) (c .first .result) (f .0) (f .1) (f .2) in (e, omega (arith, ap (λ (t : Token). t .next) e, goes-within (a .s .now) (a .at) (omega arith))))
     (λ c. (word-none (c .before .before .args .s .now) (c .before .before .args .at) (c .if1 .left), search needs)))
