@@ -15,11 +15,12 @@ pub struct Token {
     pub next: usize,
 }
 
-// A key is what a word's bytes leave as one number, divided by this. It divides 2 ^ 64 less 1, so that eight bytes count the same wherever in a word
-// they stand; of the divisors that do, it gives number words keys of their own.
+// A key is what is left of a word's bytes as one number, divided by this. It divides 2 ^ 64 less 1, so that eight bytes count the same wherever in a
+// word they stand.
 const KEYS: u64 = 823685;
 
-// What stands above the last byte, so that the length of a word counts: the least number with which no two words have one key.
+// What stands above the last byte, so that the length of a word counts. With these two numbers no words of different meanings have one key, and the
+// keys find places of their own in the tables of meanings.
 const END: u64 = 62;
 
 // The key of the empty word.
