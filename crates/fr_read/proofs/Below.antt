@@ -54,6 +54,10 @@ zeros-above (suc k) g = go (eqb (g .order) k) refl (zeros-above k g)
     go true e z = zeros-past (reads k (seems 0 0 (g .rest))) (g .value) (g .order + 1) (omega (arith, eqb-true (g .order) k e, reads-length k (seems 0 0 (g .rest))))
     go false e z = zeros-then (reads k g) (g .order + 1) z
 
+pub no-groups : (g : Group) (out : List ℕ) (k : ℕ) → k ≡ 0 → (out ≡ reads k g ++ drop k out) × (ZeroFrom (reads k g) 0 × (0 ≤ k))
+unfolding reads
+no-groups g out k e = rw e (refl, (λ i h. refl, omega arith))
+
 pub zeros-none : (k : ℕ) (g : Group) → k ≤ g .order → ZeroFrom (reads k g) 0
 zeros-none k g h = rw (none-below g k h) (zeros-all k)
 

@@ -160,11 +160,15 @@ fn first_group(s: &[u8]) -> Group
 
 // The groups of the orders below k, from the highest down; each call has the order of the group that it follows, which is lower, and the part of
 // the text behind it. The orders that are not there stay 0. Returns how many orders there are: that of the first group and 1, or 0 for no group.
+// Below order 0 no word is taken.
 fn groups(k: usize, s: &[u8], out: &mut [u16; ORDERS]) -> usize
     requires { ⌜ (k ≤ 34) × (now out ≡ replicate k 0 ++ drop k (now out)) ⌝ }
     ensures { λ _. ⌜ now (out .exit) ≡ reads k (seems 0 0 (meanings (now (s .entry)))) ++ drop k (now (out .entry)) ⌝ }
     ensures { λ r. ⌜ ZeroFrom (reads k (seems 0 0 (meanings (now (s .entry))))) r × (r ≤ k) ⌝ }
 {
+    if k == 0 {
+        return 0;
+    }
     let g = first_group(s);
     let order = g.order;
     if order < k {

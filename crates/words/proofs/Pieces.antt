@@ -64,6 +64,14 @@ module _ (t : List ℕ) where
   pub done : (xs ys : List ℕ) (k : ℕ) → Upto t xs ys k → k ≡ length t → ys ≡ over xs t
   done xs ys k e h = e ∙ rw (h, take-length t) refl
 
+  -- eight bytes more, and the last eight
+  pub eight-more : (xs ys zs : List ℕ) (k : ℕ) → Upto t xs ys k → zs ≡ with k (seg k 8 t) 8 ys → k + 8 ≤ length t → Upto t xs zs (k + 8)
+  eight-more xs ys zs k e f h = extend xs ys zs k k 8 e f (omega arith) (omega arith) h
+
+  pub last-eight : (xs ys zs : List ℕ) (k : ℕ) → Upto t xs ys k → zs ≡ with (length t - 8) (seg (length t - 8) 8 t) 8 ys → 8 ≤ length t → length t ≤ k + 8 → k ≤ length t
+      → zs ≡ over xs t
+  last-eight xs ys zs k e f h l m = done xs zs (length t - 8 + 8) (extend xs ys zs k (length t - 8) 8 e f (omega arith) (omega arith) (omega arith)) (omega arith)
+
   -- both ends, m bytes each
   pub ends : (xs ys zs : List ℕ) (m : ℕ) → m ≤ length t → length t ≤ m + m → ys ≡ with 0 (seg 0 m t) m xs → zs ≡ with (length t - m) (seg (length t - m) m t) m ys
       → zs ≡ over xs t

@@ -16,6 +16,6 @@ put-spec =
     (λ c κs. (c .before .if1 .taken, omega (arith, ap length (c .before .before .part .ensures .0), c .before .before .before .before .before .pre)))
     (λ c. search needs)
     (λ c. (ap length (c .before .before .before .before .before .part .ensures .0), c .before .before .put-short .ensures ∙ ap (over (c .before .before .before .before .before .before .before .before .args .out .now)) (c .before .before .before .before .before .part .ensures .0)))
-    (λ c κs. (c .before .if1 .left, omega (arith, ap length (c .before .before .part .ensures .0), c .before .before .before .before .before .pre)))
+    (λ c κs. let p = c .before .before .part .ensures in (c .before .if1 .left, omega (arith, p .1), omega (arith, ap length (p .0), c .before .before .before .before .before .pre)))
     (λ c. search needs)
     (λ c. (ap length (c .before .before .before .before .before .part .ensures .0), c .before .before .put-long .ensures ∙ ap (over (c .before .before .before .before .before .before .before .before .args .out .now)) (c .before .before .before .before .before .part .ensures .0))))

@@ -1,40 +1,44 @@
--- `words::put_long` meets its contract. The loop's invariant: the bytes before i are written, and i is within the text.
+-- `words::put_long` meets its contract: so many times eight bytes are written, and then the last eight.
 -- Assumes nothing.
-use Prim.Native.Nat.{_≤_, _+_, _-_}
-use mathlib.Core.Path.{_≡_, refl}
-use mathlib.Core.List.{_++_}
+use mathlib.Core.Path.{refl}
 use native.Mathlib.Omega.{arith}
 use borrow.Author.Needs.{needs}
-use lib.ListN.{length, take, drop}
-use Rattle.words.proofs.Pieces.{extend, upto-length, done}
+use Rattle.words.proofs.Pieces.{eight-more, last-eight}
 use Rattle.words.proofs.put_long.Statement.{statement}
 use Rattle.words.proofs.put_long.Tie as tie
-
-abbrev Inv-loop : tie.InvT-loop
-Inv-loop w out₀ n last i₀ out i = (out ≡ take i w ++ drop i out₀) × (i ≤ last + 8) × (last + 8 ≡ length w) × (length out ≡ length out₀) × (length w ≤ length out₀)
-
-abbrev μ-loop : tie.MeasureT-loop
-μ-loop w out₀ n last i₀ out i = last - i
 
 pub put-long-spec : {M : Type 1} → statement M
 put-long-spec =
     tie.close
     (tie.spec
-    Inv-loop
-    μ-loop
     (λ c. search needs)
-    (λ c. (refl, omega arith, omega (arith, c .before .before .pre .0), refl, c .before .before .pre .1))
+    (λ c κs. search needs)
     (λ c κs. search needs)
     (λ c. search needs)
-    (λ c. search needs)
-    (λ c.
-    let a = c .before .before .before .before .before .before .before .before .args in
-    let i = c .before .before .before .before .before .loop .i in
-    let e = extend (a .w .now) (a .out .now) (c .before .before .before .before .before .loop .out) _ i i 8 (c .before .before .before .before .before .loop .inv .0) (c .before .before .move8 .ensures) (omega arith) (omega arith) (omega arith) in
-    (e, omega arith, omega arith, upto-length (a .w .now) (a .out .now) _ (i + 8) e (omega arith) (omega arith), c .before .before .before .before .before .loop .inv .4))
+    (λ c. let a = c .before .before .before .before .before .before .before .before .before .before .before in let t = a .args .w .now in let xs = a .args .out .now in
+    let e8 = eight-more t xs _ _ 0 refl (c .before .before .before .before .before .before .before .move8 .ensures) (omega (arith, a .pre .0)) in
+    last-eight t xs _ _ 8 e8 (c .before .before .move82 .ensures) (a .pre .0) (omega (arith, c .before .before .before .before .if1 .taken)) (omega (arith, a .pre .0)))
+    (λ c κs. search needs)
     (λ c κs. search needs)
     (λ c. search needs)
-    (λ c.
-    let a = c .before .before .before .before .before .before .before .before .args in
-    let last = length (a .w .now) - 8 in
-    done (a .w .now) (a .out .now) _ (last + 8) (extend (a .w .now) (a .out .now) (c .before .before .before .before .before .loop .out) _ (c .before .before .before .before .before .loop .i) last 8 (c .before .before .before .before .before .loop .inv .0) (c .before .before .move82 .ensures) (omega arith) (omega arith) (omega arith)) (omega arith)))
+    (λ c. let a = c .before .before .before .before .before .before .before .before .before .before .before .before .before .before .before .before in let t = a .args .w .now in let xs = a .args .out .now in
+    let e8 = eight-more t xs _ _ 0 refl (c .before .before .before .before .before .before .before .before .before .before .before .before .move8 .ensures) (omega (arith, a .pre .0)) in
+    let e16 = eight-more t xs _ _ 8 e8 (c .before .before .before .before .before .before .before .move83 .ensures) (omega (arith, c .before .before .before .before .before .before .before .before .before .if1 .left)) in
+    last-eight t xs _ _ 16 e16 (c .before .before .move84 .ensures) (a .pre .0) (omega (arith, c .before .before .before .before .if2 .taken)) (omega (arith, c .before .before .before .before .before .before .before .before .before .if1 .left)))
+    (λ c κs. search needs)
+    (λ c κs. search needs)
+    (λ c. search needs)
+    (λ c. let a = c .before .before .before .before .before .before .before .before .before .before .before .before .before .before .before .before .before .before .before .before .before in let t = a .args .w .now in let xs = a .args .out .now in
+    let e8 = eight-more t xs _ _ 0 refl (c .before .before .before .before .before .before .before .before .before .before .before .before .before .before .before .before .before .move8 .ensures) (omega (arith, a .pre .0)) in
+    let e16 = eight-more t xs _ _ 8 e8 (c .before .before .before .before .before .before .before .before .before .before .before .before .move83 .ensures) (omega (arith, c .before .before .before .before .before .before .before .before .before .before .before .before .before .before .if1 .left)) in
+    let e24 = eight-more t xs _ _ 16 e16 (c .before .before .before .before .before .before .before .move85 .ensures) (omega (arith, c .before .before .before .before .before .before .before .before .before .if2 .left)) in
+    last-eight t xs _ _ 24 e24 (c .before .before .move86 .ensures) (a .pre .0) (omega (arith, c .before .before .before .before .if3 .taken)) (omega (arith, c .before .before .before .before .before .before .before .before .before .if2 .left)))
+    (λ c κs. search needs)
+    (λ c κs. search needs)
+    (λ c. search needs)
+    (λ c. let a = c .before .before .before .before .before .before .before .before .before .before .before .before .before .before .before .before .before .before .before .before .before .before .before .before .before in let t = a .args .w .now in let xs = a .args .out .now in
+    let e8 = eight-more t xs _ _ 0 refl (c .before .before .before .before .before .before .before .before .before .before .before .before .before .before .before .before .before .before .before .before .before .move8 .ensures) (omega (arith, a .pre .0)) in
+    let e16 = eight-more t xs _ _ 8 e8 (c .before .before .before .before .before .before .before .before .before .before .before .before .before .before .before .before .move83 .ensures) (omega (arith, c .before .before .before .before .before .before .before .before .before .before .before .before .before .before .before .before .before .before .if1 .left)) in
+    let e24 = eight-more t xs _ _ 16 e16 (c .before .before .before .before .before .before .before .before .before .before .before .move85 .ensures) (omega (arith, c .before .before .before .before .before .before .before .before .before .before .before .before .before .if2 .left)) in
+    let e32 = eight-more t xs _ _ 24 e24 (c .before .before .before .before .before .before .move87 .ensures) (omega (arith, c .before .before .before .before .before .before .before .before .if3 .left)) in
+    last-eight t xs _ _ 32 e32 (c .before .before .move88 .ensures) (a .pre .0) (omega (arith, a .pre .1)) (omega (arith, c .before .before .before .before .before .before .before .before .if3 .left))))
