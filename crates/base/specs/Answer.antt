@@ -2,12 +2,45 @@
 -- Assumes nothing.
 use Prim.Native.Nat.{ℕ, zero, suc}
 use mathlib.Core.Path.{_≡_}
-use mathlib.Core.Bool.{cond}
-use mathlib.Core.List.{List}
+use mathlib.Core.Bool.{Bool, cond}
+use mathlib.Core.List.{List, [], _∷_}
 use lib.Dec.{ltb}
 use lib.ListN.{length}
 use Rattle.base.specs.Buffer.{over}
 use Rattle.base.specs.declared.Answer.{Answer}
+
+-- the numbers of 01's table, downwards: a setting outside its range, no code, a malformed text, a sign that is refused, a size above its limit, no
+-- sentence, a buffer that is shorter than the answer
+abbrev pub wrongSetting : ℕ
+wrongSetting = 1
+
+abbrev pub wrongCode : ℕ
+wrongCode = 2
+
+abbrev pub malformed : ℕ
+malformed = 3
+
+abbrev pub wrongSign : ℕ
+wrongSign = 4
+
+abbrev pub tooLarge : ℕ
+tooLarge = 5
+
+abbrev pub noSentence : ℕ
+noSentence = 6
+
+abbrev pub noRoom : ℕ
+noRoom = 7
+
+-- conditions, each with its number: "the first that applies is given", 0 where none does
+abbrev pub firstOf : List (Bool × ℕ) → ℕ
+firstOf [] = 0
+firstOf (c ∷ cs) = cond (c .0) (c .1) (firstOf cs)
+
+-- what a spelling call comes to, before a buffer is looked at: its refusal, 0 for none, and its phrase
+pub record Spelling : Type 0 where
+  pub refusal : ℕ
+  pub phrase : List ℕ
 
 -- a refusal's number with the length that it reports, or the bytes of an answer
 pub data Reply : Type 0 where
@@ -31,24 +64,28 @@ bufferOf xs (bytes b) = over xs b
 
 -- the bytes b for the buffer xs; where it is "shorter than the answer", refusal 7, which "reports the length needed"
 abbrev pub fitted : List ℕ → List ℕ → Reply
-fitted xs b = cond (ltb (length xs) (length b)) (refused 7 (length b)) (bytes b)
+fitted xs b = cond (ltb (length xs) (length b)) (refused noRoom (length b)) (bytes b)
 
--- the refusal n, whose length "is 0", or where n is 0 the bytes b for the buffer xs
-abbrev pub replied : ℕ → List ℕ → List ℕ → Reply
-replied zero b xs = fitted xs b
-replied (suc n) b xs = refused (suc n) 0
+-- the refusal n, whose length "is 0", or where n is 0 another reply
+abbrev pub unless : ℕ → Reply → Reply
+unless zero reply = reply
+unless (suc n) reply = refused (suc n) 0
+
+-- the reply of a spelling call for the buffer xs
+abbrev pub replied : Spelling → List ℕ → Reply
+replied S xs = unless (S .refusal) (fitted xs (S .phrase))
 
 -- the answer r, with the buffer xs left as ys, is this reply
 pub record Answers (r : Answer) (xs ys : List ℕ) (reply : Reply) : Type 0 where
-  pub number : r .number ≡ numberOf reply
-  pub length : r .length ≡ lengthOf reply
-  pub buffer : ys ≡ bufferOf xs reply
+  pub reported : r .number ≡ numberOf reply
+  pub sized : r .length ≡ lengthOf reply
+  pub held : ys ≡ bufferOf xs reply
 
 -- what a reading call promises of its answer r to the phrase s, for the buffer xs left as ys, where no refusal comes before the phrase's (01,
 -- "Phrase grammar and reader"): a sentence whose value is the text t is answered by t, or by 7 where t does not fit; any other bytes by 6
 pub record Reads (Means : List ℕ → List ℕ → Type 0) (s : List ℕ) (r : Answer) (xs ys : List ℕ) : Type 0 where
   pub sentence : (t : List ℕ) → Means s t → Answers r xs ys (fitted xs t)
-  pub none : ((t : List ℕ) → Means s t → ⊥) → Answers r xs ys (refused 6 0)
+  pub none : ((t : List ℕ) → Means s t → ⊥) → Answers r xs ys (refused noSentence 0)
 
 -- the same, where the refusal n comes first unless it is 0
 abbrev pub ReadsUnless : ℕ → (List ℕ → List ℕ → Type 0) → List ℕ → Answer → List ℕ → List ℕ → Type 0

@@ -1,4 +1,4 @@
--- Words joined by single spaces (01, "Ukrainian cardinals": words joined by one space).
+-- Words joined (01, "Ukrainian cardinals": "words joined by one space"; "French": "joined by a space, or by `-` if reformed").
 -- Assumes nothing.
 use mathlib.Core.List.{List, [], _∷_, _++_}
 use Prim.Native.Nat.{ℕ}
@@ -7,12 +7,27 @@ use Prim.Native.Nat.{ℕ}
 abbrev pub Word : Type 0
 Word = List ℕ
 
+-- the byte of a space, and of a hyphen
+abbrev pub space : ℕ
+space = 32
+
+abbrev pub hyphen : ℕ
+hyphen = 45
+
+-- words after others, each with the joiner j before it
+abbrev pub spacedBy : ℕ → List Word → List ℕ
+spacedBy j [] = []
+spacedBy j (w ∷ ws) = j ∷ (w ++ spacedBy j ws)
+
+-- the words joined by j
+abbrev pub joinedBy : ℕ → List Word → List ℕ
+joinedBy j [] = []
+joinedBy j (w ∷ ws) = w ++ spacedBy j ws
+
+-- joined by single spaces
+abbrev pub joined : List Word → List ℕ
+joined ws = joinedBy space ws
+
 -- words after others, each with a space before it
 abbrev pub spaced : List Word → List ℕ
-spaced [] = []
-spaced (w ∷ ws) = 32 ∷ (w ++ spaced ws)
-
--- the words joined
-abbrev pub joined : List Word → List ℕ
-joined [] = []
-joined (w ∷ ws) = w ++ spaced ws
+spaced ws = spacedBy space ws

@@ -2,10 +2,10 @@
 -- Assumes nothing.
 use Prim.Native.Nat.{ℕ, _-_}
 use mathlib.Core.Bool.{Bool, cond, not, _&&_}
-use mathlib.Core.List.{List, [], _∷_, _++_}
+use mathlib.Core.List.{List, []}
 use lib.Dec.{leb, eqb}
 use lib.ListN.{length, getD, take, drop}
-use Rattle.figures.specs.Text.{digits, plain, value, unsigned, wellFormed, fixed, text}
+use Rattle.figures.specs.Text.{digits, plain, value, unsigned, wellFormed}
 
 -- a '.' stands before the last two bytes
 abbrev pub pointed : List ℕ → Bool
@@ -20,16 +20,20 @@ abbrev pub hundredthsText : List ℕ → List ℕ
 hundredthsText xs = cond (pointed xs) (drop (length xs - 2) xs) []
 
 -- "two digits, not both zero", of two bytes
-abbrev pub hundredths : List ℕ → Bool
-hundredths xs = digits xs && not (eqb (value xs) 0)
+abbrev pub areHundredths : List ℕ → Bool
+areHundredths xs = digits xs && not (eqb (value xs) 0)
 
 -- a whole part and hundredths, or a number text; "its `-` is well formed before anything but plain zero"
 abbrev pub moneyFormed : List ℕ → Bool
-moneyFormed xs = cond (pointed xs) (plain (unsigned (wholeText xs)) && hundredths (hundredthsText xs)) (wellFormed xs)
+moneyFormed xs = cond (pointed xs) (plain (unsigned (wholeText xs)) && areHundredths (hundredthsText xs)) (wellFormed xs)
 
--- the money text of w and h hundredths, h below 100 ("Phrase grammar and reader": "whole part and hundredths as a money text")
-abbrev pub moneyText : ℕ → ℕ → List ℕ
-moneyText w h = text w ++ cond (eqb h 0) [] (46 ∷ fixed 2 h)
+-- an amount's whole part
+abbrev pub wholeOf : List ℕ → ℕ
+wholeOf xs = value (unsigned (wholeText xs))
+
+-- its hundredths, 0 where none are written
+abbrev pub hundredthsOf : List ℕ → ℕ
+hundredthsOf xs = value (hundredthsText xs)
 
 -- the largest whole part: "at most 18,446,744,073,709,551,615"
 abbrev pub moneyLimit : ℕ

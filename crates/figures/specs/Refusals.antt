@@ -1,39 +1,50 @@
--- What is refused of a number text (01, "Where each refusal arises": number text, sign, size; limits of "Number texts").
+-- What is refused of a text, as conditions with their numbers in the order of 01's table ("Where each refusal arises": number text, sign, size; limits
+-- of "Number texts").
 -- Assumes nothing.
 use Prim.Native.Nat.{ℕ}
-use mathlib.Core.Bool.{Bool, false, cond, not, _&&_}
-use mathlib.Core.List.{List}
+use mathlib.Core.Path.{_≡_}
+use mathlib.Core.Bool.{Bool, not}
+use mathlib.Core.List.{List, [], _∷_}
 use lib.Dec.{ltb}
 use lib.ListN.{length}
+use Rattle.base.specs.Answer.{malformed, wrongSign, tooLarge, firstOf}
 use Rattle.figures.specs.Text.{value, negative, unsigned, wellFormed}
-use Rattle.figures.specs.Money.{wholeText, moneyFormed, moneyLimit}
+use Rattle.figures.specs.Money.{wholeOf, moneyFormed, moneyLimit}
 use Rattle.figures.specs.Year.{yearLimit}
 use Rattle.figures.specs.declared.Judged.{Judged}
 use Rattle.figures.specs.declared.Judged.the-variants.{Fine, Malformed, Negative, Large}
 
--- the number of each refusal in 01's table, 0 for none
+-- 01's number of each of the code's answers, 0 for none
 abbrev pub refusalOf : Judged → ℕ
 refusalOf Fine = 0
-refusalOf Malformed = 3
-refusalOf Negative = 4
-refusalOf Large = 5
+refusalOf Malformed = malformed
+refusalOf Negative = wrongSign
+refusalOf Large = tooLarge
 
--- "the first that applies is given": malformed, a sign that is refused, above the limit
-abbrev pub judged : Bool → Bool → Bool → Judged
-judged malformed refused above = cond malformed Malformed (cond refused Negative (cond above Large Fine))
+-- of a cardinal's text, of at most so many digits: 66 in Ukrainian, 102 in French
+abbrev pub cardinalRefusals : ℕ → List ℕ → List (Bool × ℕ)
+cardinalRefusals most t = (not (wellFormed t), malformed) ∷ (ltb most (length (unsigned t)), tooLarge) ∷ []
 
--- a cardinal, which may be signed, or an ordinal, which is "not negative"; of at most so many digits, 66 in Ukrainian and 102 in French
-abbrev pub judgeDigits : Bool → ℕ → List ℕ → Judged
-judgeDigits signed most xs = judged (not (wellFormed xs)) (negative xs && not signed) (ltb most (length (unsigned xs)))
+-- of an ordinal's, which is "not negative"
+abbrev pub ordinalRefusals : ℕ → List ℕ → List (Bool × ℕ)
+ordinalRefusals most t = (not (wellFormed t), malformed) ∷ (negative t, wrongSign) ∷ (ltb most (length (unsigned t)), tooLarge) ∷ []
 
--- a digit ordinal: "at most 340,282,366,920,938,463,463,374,607,431,768,211,455"
-abbrev pub judgeDigitOrdinal : List ℕ → Judged
-judgeDigitOrdinal xs = judged (not (wellFormed xs)) (negative xs) (ltb 340282366920938463463374607431768211455 (value (unsigned xs)))
+-- the largest digit ordinal: "at most 340,282,366,920,938,463,463,374,607,431,768,211,455"
+abbrev pub digitOrdinalLimit : ℕ
+digitOrdinalLimit = 340282366920938463463374607431768211455
 
--- an amount, by its whole part
-abbrev pub judgeMoney : List ℕ → Judged
-judgeMoney xs = judged (not (moneyFormed xs)) (negative xs) (ltb moneyLimit (value (unsigned (wholeText xs))))
+-- of a digit ordinal's
+abbrev pub digitOrdinalRefusals : List ℕ → List (Bool × ℕ)
+digitOrdinalRefusals t = (not (wellFormed t), malformed) ∷ (negative t, wrongSign) ∷ (ltb digitOrdinalLimit (value (unsigned t)), tooLarge) ∷ []
 
--- a year as text ("The program phrases": "A malformed year is refused 3, one beyond 64 signed bits 5")
-abbrev pub judgeYear : List ℕ → Judged
-judgeYear xs = judged (not (wellFormed xs)) false (ltb (yearLimit (negative xs)) (value (unsigned xs)))
+-- of an amount's, by its whole part
+abbrev pub amountRefusals : List ℕ → List (Bool × ℕ)
+amountRefusals t = (not (moneyFormed t), malformed) ∷ (negative t, wrongSign) ∷ (ltb moneyLimit (wholeOf t), tooLarge) ∷ []
+
+-- of a year's ("The program phrases": "A malformed year is refused 3, one beyond 64 signed bits 5")
+abbrev pub yearRefusals : List ℕ → List (Bool × ℕ)
+yearRefusals t = (not (wellFormed t), malformed) ∷ (ltb (yearLimit (negative t)) (value (unsigned t)), tooLarge) ∷ []
+
+-- none of these conditions holds ("Phrase grammar and reader": "A text is admitted for a kind if none of the conditions 3 to 5 holds of it")
+abbrev pub Admitted : List (Bool × ℕ) → Type 0
+Admitted conditions = firstOf conditions ≡ 0

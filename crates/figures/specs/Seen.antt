@@ -1,20 +1,19 @@
--- What a reader of numbers promises, and the value of a sentence as a text, by a grammar alone (01, "Phrase grammar and reader"). `Says` is what
--- the grammar says of the bytes that are read: that they are a sentence with this sign and this number.
+-- What a reader of numbers promises, by a grammar alone (01, "Phrase grammar and reader"). `Says` is what the grammar says of the bytes that are
+-- read: that they are a sentence with this sign and this number.
 -- Assumes nothing.
 use Prim.Native.Nat.{ℕ}
 use mathlib.Core.Path.{_≡_}
 use mathlib.Core.Bool.{Bool, true, false, cond}
 use mathlib.Core.List.{List}
-use Rattle.figures.specs.Text.{signedText}
 use Rattle.figures.specs.Groups.{total}
 use Rattle.figures.specs.declared.Seen.{Seen}
 use Rattle.figures.specs.declared.Seen.the-variants.{Refused, Plain, Negative}
 
 -- 01's number of each answer
-abbrev pub numberOf : Seen → ℕ
-numberOf Refused = 6
-numberOf Plain = 0
-numberOf Negative = 0
+abbrev pub seenNumber : Seen → ℕ
+seenNumber Refused = 6
+seenNumber Plain = 0
+seenNumber Negative = 0
 
 -- the answer to a sentence with this sign
 abbrev pub seenAs : Bool → Seen
@@ -30,11 +29,4 @@ pub record ReadOf (Says : Bool → ℕ → Type 0) (r : Seen) (gs : List ℕ) : 
   -- a sentence is read with its sign and its groups
   pub reads : (minus : Bool) (n : ℕ) → Says minus n → (r ≡ seenAs minus) × (total gs ≡ n)
   -- bytes that are none are refused, with 6
-  pub refuses : ((minus : Bool) (n : ℕ) → Says minus n → ⊥) → numberOf r ≡ 6
-
--- the bytes are a sentence whose value is the number text t
-pub record TextOf (Says : Bool → ℕ → Type 0) (t : List ℕ) : Type 0 where
-  pub minus : Bool
-  pub magnitude : ℕ
-  pub says : Says minus magnitude
-  pub text : t ≡ signedText minus magnitude
+  pub refuses : ((minus : Bool) (n : ℕ) → Says minus n → ⊥) → seenNumber r ≡ 6

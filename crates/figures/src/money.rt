@@ -5,7 +5,7 @@ use super::is_plain;
 use super::is_well_formed;
 ghost use mathlib.Core.Path.{_≡_};
 ghost use lib.ListN.{length};
-ghost use Rattle.figures.specs.Money.{pointed, wholeText, hundredthsText, hundredths, moneyFormed};
+ghost use Rattle.figures.specs.Money.{pointed, wholeText, hundredthsText, areHundredths, moneyFormed};
 
 // Whether a '.' stands before the last two bytes.
 fn is_pointed(s: &[u8]) -> bool
@@ -47,7 +47,7 @@ pub fn hundredths_part(s: &[u8]) -> &[u8]
 // Whether two bytes are digits, not both zero.
 fn is_hundredths(s: &[u8]) -> bool
     requires { ⌜ length (now s) ≡ 2 ⌝ }
-    ensures { λ r. ⌜ r ≡ hundredths (now (s .entry)) ⌝ }
+    ensures { λ r. ⌜ r ≡ areHundredths (now (s .entry)) ⌝ }
 {
     if all_digits(s) {
         if s[0] == b'0' { s[1] != b'0' } else { true }

@@ -8,10 +8,12 @@ use super::money::is_money_formed;
 use super::money::whole_part;
 use super::size;
 ghost use mathlib.Core.Path.{_≡_};
-ghost use mathlib.Core.Bool.{true, not};
+ghost use mathlib.Core.Bool.{true, false, not};
 ghost use lib.Dec.{leb, ltb};
+ghost use Rattle.base.specs.Answer.{firstOf};
 ghost use Rattle.figures.specs.Text.{plain, value};
-ghost use Rattle.figures.specs.Refusals.{refusalOf, judged, judgeDigits, judgeDigitOrdinal, judgeMoney, judgeYear};
+ghost use Rattle.figures.specs.Refusals.{refusalOf, cardinalRefusals, ordinalRefusals, digitOrdinalRefusals, amountRefusals, yearRefusals};
+ghost use Rattle.figures.specs.Judging.{judged};
 
 // 01's number of what is refused, 0 for nothing.
 pub fn number_of(j: Judged) -> u32
@@ -27,7 +29,7 @@ pub fn number_of(j: Judged) -> u32
 
 // The first that applies.
 fn decide(formed: bool, refused: bool, within: bool) -> Judged
-    ensures { λ r. ⌜ r ≡ judged (not formed) refused (not within) ⌝ }
+    ensures { λ r. ⌜ refusalOf r ≡ judged (not formed) refused (not within) ⌝ }
 {
     if formed {
         if refused {
@@ -40,13 +42,17 @@ fn decide(formed: bool, refused: bool, within: bool) -> Judged
     }
 }
 
-// What is refused of a cardinal's or an ordinal's text of at most most digits.
-pub fn judge(s: &[u8], signed: bool, most: usize) -> Judged
-    ensures { λ r. ⌜ r ≡ judgeDigits signed most (now (s .entry)) ⌝ }
+// What is refused of a cardinal's text of at most most digits.
+pub fn judge_cardinal(s: &[u8], most: usize) -> Judged
+    ensures { λ r. ⌜ refusalOf r ≡ firstOf (cardinalRefusals most (now (s .entry))) ⌝ }
 {
-    if signed {
-        return decide(is_well_formed(s), false, size(s) <= most);
-    }
+    decide(is_well_formed(s), false, size(s) <= most)
+}
+
+// What is refused of an ordinal's.
+pub fn judge_ordinal(s: &[u8], most: usize) -> Judged
+    ensures { λ r. ⌜ refusalOf r ≡ firstOf (ordinalRefusals most (now (s .entry))) ⌝ }
+{
     decide(is_well_formed(s), is_negative(s), size(s) <= most)
 }
 
@@ -81,7 +87,7 @@ fn at_most(s: &[u8], l: &[u8]) -> bool
 fn limited(formed: bool, refused: bool, w: &[u8], l: &[u8]) -> Judged
     requires { ⌜ (formed ≡ true → plain (now w) ≡ true) ⌝ }
     requires { ⌜ plain (now l) ≡ true ⌝ }
-    ensures { λ r. ⌜ r ≡ judged (not formed) refused (ltb (value (now (l .entry))) (value (now (w .entry)))) ⌝ }
+    ensures { λ r. ⌜ refusalOf r ≡ judged (not formed) refused (ltb (value (now (l .entry))) (value (now (w .entry)))) ⌝ }
 {
     if formed {
         decide(true, refused, at_most(w, l))
@@ -92,7 +98,7 @@ fn limited(formed: bool, refused: bool, w: &[u8], l: &[u8]) -> Judged
 
 // What is refused of a digit ordinal's text. A plain text has no sign; a well formed one that is not plain has one, so no sign is looked for.
 pub fn judge_digit_ordinal(s: &[u8]) -> Judged
-    ensures { λ r. ⌜ r ≡ judgeDigitOrdinal (now (s .entry)) ⌝ }
+    ensures { λ r. ⌜ refusalOf r ≡ firstOf (digitOrdinalRefusals (now (s .entry))) ⌝ }
 {
     if is_plain(s) {
         return limited(true, false, s, b"340282366920938463463374607431768211455");
@@ -100,9 +106,9 @@ pub fn judge_digit_ordinal(s: &[u8]) -> Judged
     decide(is_well_formed(s), true, true)
 }
 
-// What is refused of a money text.
-pub fn judge_money(s: &[u8]) -> Judged
-    ensures { λ r. ⌜ r ≡ judgeMoney (now (s .entry)) ⌝ }
+// What is refused of an amount's text.
+pub fn judge_amount(s: &[u8]) -> Judged
+    ensures { λ r. ⌜ refusalOf r ≡ firstOf (amountRefusals (now (s .entry))) ⌝ }
 {
     let most = b"18446744073709551615";
     let whole = after_sign(whole_part(s));
@@ -111,7 +117,7 @@ pub fn judge_money(s: &[u8]) -> Judged
 
 // What is refused of a year's text.
 pub fn judge_year(s: &[u8]) -> Judged
-    ensures { λ r. ⌜ r ≡ judgeYear (now (s .entry)) ⌝ }
+    ensures { λ r. ⌜ refusalOf r ≡ firstOf (yearRefusals (now (s .entry))) ⌝ }
 {
     let formed = is_well_formed(s);
     let w = after_sign(s);

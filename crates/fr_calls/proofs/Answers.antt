@@ -11,7 +11,8 @@ use lib.ListN.{length}
 use Rattle.tables.proofs.Tests.{clash-of as clash}
 use Rattle.base.specs.Answer.{refused, fitted, Answers, Reads, ReadsUnless}
 use Rattle.base.specs.declared.Answer.{Answer}
-use Rattle.figures.specs.Text.{value, wellFormed, negative, unsigned, signedText}
+use Rattle.figures.specs.Text.{value, wellFormed, negative, unsigned}
+use Rattle.figures.specs.Written.{signedDecimal}
 use Rattle.figures.specs.Groups.{groupsOf, total}
 use Rattle.figures.proofs.Laws.Groups.{groups-length, groups-below, total-groups}
 use Rattle.figures.proofs.Laws.Sign.{formed-unsigned}
@@ -81,10 +82,10 @@ module _ (F : French) (s gs xs ys : List ℕ) (r : Answer) where
   pub ordinal-none : (b : Bool) → ReadNth F s b gs → b ≡ false → Answers r xs ys (refused 6 0) → Reads (OrdinalMeans F) s r xs ys
   ordinal-none b p e a = record { sentence = λ t m. clash (sym e ∙ p .reads (m .magnitude) (m .says) .0); none = λ f. a }
 
-  pub ordinal-some : (b : Bool) → ReadNth F s b gs → b ≡ true → Answers r xs ys (fitted xs (signedText false (total gs))) → Reads (OrdinalMeans F) s r xs ys
+  pub ordinal-some : (b : Bool) → ReadNth F s b gs → b ≡ true → Answers r xs ys (fitted xs (signedDecimal false (total gs))) → Reads (OrdinalMeans F) s r xs ys
   ordinal-some b p e a = record {
     sentence = λ t x. rw (x .text, ← p .reads (x .magnitude) (x .says) .1) a;
-    none = λ f. clash (sym (p .refuses (λ n q. f (signedText false n) (record { magnitude = n; says = q; text = refl }))) ∙ e);
+    none = λ f. clash (sym (p .refuses (λ n q. f (signedDecimal false n) (record { magnitude = n; says = q; text = refl }))) ∙ e);
   }
 
   -- settings first

@@ -11,7 +11,8 @@ use lib.Dec.{ltb}
 use lib.ListN.{length}
 use Rattle.tables.proofs.Tests.{clash-of as clash}
 use Rattle.base.specs.Claim.{Readable}
-use Rattle.figures.specs.Text.{value, wellFormed, negative, unsigned, signedText}
+use Rattle.figures.specs.Text.{value, wellFormed, negative, unsigned}
+use Rattle.figures.specs.Written.{signedDecimal}
 use Rattle.figures.specs.Refusals.{judgeDigits, refusalOf}
 use Rattle.figures.proofs.Laws.Digits.{thousand}
 use Rattle.figures.proofs.Laws.Plain.{plain-digits}
@@ -44,7 +45,7 @@ plain-sign true e = clash (sym e)
 plain-sign false e = refl
 
 -- the number text of a sentence's value
-value-text : (minus : Bool) (n : ℕ) → n < 1000 ^ 34 → (minus ≡ true → 0 < n) → Signed minus n 102 (signedText minus n)
+value-text : (minus : Bool) (n : ℕ) → n < 1000 ^ 34 → (minus ≡ true → 0 < n) → Signed minus n 102 (signedDecimal minus n)
 value-text minus n h p = signed-text minus n 102 (omega arith) (omega arith) (rw (← thousand 34) at h) p
 
 -- settings in their ranges
@@ -62,8 +63,8 @@ ranges F e =
 pub small : (xs : List ℕ) → wellFormed xs ≡ true → length (unsigned xs) ≤ 102 → value (unsigned xs) < 1000 ^ 34
 small xs f l = hold 34 (unsigned xs) (plain-digits (unsigned xs) (formed-unsigned xs f)) l
 
-own-text : (xs : List ℕ) → wellFormed xs ≡ true → length (unsigned xs) ≤ 102 → xs ≡ signedText (negative xs) (value (unsigned xs))
-own-text xs f l = sym (ap (signedText (negative xs)) (sym (total-groups 34 (value (unsigned xs)) (small xs f l))) ∙ text-round 34 xs (omega arith) f l)
+own-text : (xs : List ℕ) → wellFormed xs ≡ true → length (unsigned xs) ≤ 102 → xs ≡ signedDecimal (negative xs) (value (unsigned xs))
+own-text xs f l = sym (ap (signedDecimal (negative xs)) (sym (total-groups 34 (value (unsigned xs)) (small xs f l))) ∙ text-round 34 xs (omega arith) f l)
 
 module _ (F : French) (v : InRange F) where
   cardinal-spelled : (xs : List ℕ) → CardinalAdmitted xs → CardinalMeans F (cardinalOf F xs) xs
@@ -99,14 +100,14 @@ module _ (F : French) (v : InRange F) where
   }
     where
       go : (s : List ℕ) → Dec ((m : Bool) × ((n : ℕ) × Says F s m n)) → Dec ((xs : List ℕ) × CardinalMeans F s xs)
-      go s (yes p) = yes (signedText (p .0) (p .1 .0), record { minus = p .0; magnitude = p .1 .0; says = p .1 .1; text = refl })
+      go s (yes p) = yes (signedDecimal (p .0) (p .1 .0), record { minus = p .0; magnitude = p .1 .0; says = p .1 .1; text = refl })
       go s (no f) = no (λ p. f (p .1 .minus, (p .1 .magnitude, p .1 .says)))
 
   ordinal-spelled : (xs : List ℕ) → OrdinalAdmitted xs → OrdinalMeans F (ordinalOf F xs) xs
   unfolding ordinalOf
   ordinal-spelled xs a =
       let f = admitted false xs a in
-      let e : signedText (negative xs) (value (unsigned xs)) ≡ signedText false (value (unsigned xs)) = ap (λ (b : Bool). signedText b (value (unsigned xs))) (plain-sign (negative xs) (f .sign)) in
+      let e : signedDecimal (negative xs) (value (unsigned xs)) ≡ signedDecimal false (value (unsigned xs)) = ap (λ (b : Bool). signedDecimal b (value (unsigned xs))) (plain-sign (negative xs) (f .sign)) in
       record { magnitude = value (unsigned xs); says = says-nth F (value (unsigned xs)) (small xs (f .formed) (f .within)); text = own-text xs (f .formed) (f .within) ∙ e }
 
   ordinal-value : (s xs : List ℕ) → OrdinalMeans F s xs → OrdinalAdmitted xs × (ordinalOf F xs ≡ s)
@@ -129,5 +130,5 @@ module _ (F : French) (v : InRange F) where
   }
     where
       go : (s : List ℕ) → Dec ((n : ℕ) × SaysNth F s n) → Dec ((xs : List ℕ) × OrdinalMeans F s xs)
-      go s (yes p) = yes (signedText false (p .0), record { magnitude = p .0; says = p .1; text = refl })
+      go s (yes p) = yes (signedDecimal false (p .0), record { magnitude = p .0; says = p .1; text = refl })
       go s (no f) = no (λ p. f (p .1 .magnitude, p .1 .says))

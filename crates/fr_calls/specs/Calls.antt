@@ -5,7 +5,8 @@ use mathlib.Core.Path.{_≡_}
 use mathlib.Core.Bool.{Bool, true, false, cond, _&&_}
 use mathlib.Core.List.{List}
 use lib.Dec.{eqb, ltb}
-use Rattle.figures.specs.Text.{value, negative, unsigned, signedText}
+use Rattle.figures.specs.Text.{value, negative, unsigned}
+use Rattle.figures.specs.Written.{signedDecimal}
 use Rattle.figures.specs.Seen.{TextOf}
 use Rattle.figures.specs.Groups.{groupsOf}
 use Rattle.figures.specs.Refusals.{judgeDigits, refusalOf}
@@ -58,4 +59,4 @@ CardinalMeans F s xs = TextOf (Says F s) xs
 pub record OrdinalMeans (F : French) (s xs : List ℕ) : Type 0 where
   pub magnitude : ℕ
   pub says : SaysNth F s magnitude
-  pub text : xs ≡ signedText false magnitude
+  pub text : xs ≡ signedDecimal false magnitude

@@ -8,7 +8,7 @@ use native.Mathlib.Omega.{arith}
 use lib.ListN.{length, getD, take}
 use lib.Seq.{length-take-le}
 use Rattle.figures.specs.Groups.{total, Groups}
-use Rattle.figures.specs.Text.{text}
+use Rattle.figures.specs.Written.{decimal}
 use Rattle.figures.proofs.Laws.Groups.{group-of, total-lt}
 use Rattle.figures.proofs.Laws.Text.{lead-some, text-above}
 use Rattle.groups.specs.Highest.{Highest}
@@ -20,14 +20,14 @@ groups-take [] (suc n) g = tt
 groups-take (x ∷ gs) (suc n) g = (g .0, groups-take gs n (g .1))
 
 module _ (gs : List ℕ) (g : Groups gs) (n : ℕ) (t : Highest gs n) where
-  pub size-none : n ≡ 0 → 1 ≡ length (text (total gs))
-  unfolding text
+  pub size-none : n ≡ 0 → 1 ≡ length (decimal (total gs))
+  unfolding decimal
   size-none e = rw (total-none gs (rw e at (t .zeros)))
 
   below-top : total gs < 1000 ^ n
   below-top = rw (total-take gs n (t .zeros), length-take-le n gs (t .within)) at (total-lt (take n gs) (groups-take gs n g))
 
-  pub size-some : length gs ≤ 34 → (n ≡ 0 → ⊥) → (n - 1) * 3 + length (text (getD gs (n - 1) 0)) ≡ length (text (total gs))
+  pub size-some : length gs ≤ 34 → (n ≡ 0 → ⊥) → (n - 1) * 3 + length (decimal (getD gs (n - 1) 0)) ≡ length (decimal (total gs))
   size-some m z =
       let o : ℕ = n - 1 in
       let w : n ≤ length gs = t .within in

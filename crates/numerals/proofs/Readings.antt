@@ -7,9 +7,9 @@ use mathlib.Core.List.{List}
 use native.Mathlib.Omega.{arith}
 use Rattle.base.specs.Answer.{Answers, Reads, fitted}
 use Rattle.base.specs.declared.Answer.{Answer}
-use Rattle.figures.specs.Text.{signedText}
+use Rattle.figures.specs.Written.{signedDecimal}
 use Rattle.figures.specs.Groups.{total}
-use Rattle.figures.specs.Seen.{seenAs, numberOf, ReadOf, TextOf}
+use Rattle.figures.specs.Seen.{seenAs, seenNumber, ReadOf, TextOf}
 use Rattle.figures.specs.declared.Seen.{Seen}
 use Rattle.figures.specs.declared.Seen.the-variants.{Refused, Plain, Negative}
 use Rattle.numerals.specs.Reading.{answered}
@@ -18,7 +18,7 @@ seen-not : {A : Type 0} (m : Bool) → Refused ≡ seenAs m → A
 seen-not true e = let z : _≡_ {A = ℕ} 0 1 = cc in absurd (omega arith)
 seen-not false e = let z : _≡_ {A = ℕ} 0 1 = cc in absurd (omega arith)
 
-seen-done : {A : Type 0} (m : Bool) → numberOf (seenAs m) ≡ 6 → A
+seen-done : {A : Type 0} (m : Bool) → seenNumber (seenAs m) ≡ 6 → A
 seen-done true e = absurd (omega arith)
 seen-done false e = absurd (omega arith)
 
@@ -32,10 +32,10 @@ module _ (Says : List ℕ → Bool → ℕ → Type 0) (s gs xs ys : List ℕ) (
   abbrev Right : Type 0
   Right = Reads (λ (l t : List ℕ). TextOf (Says l) t) s r xs ys
 
-  some : (m : Bool) → ReadOf (Says s) (seenAs m) gs → Answers r xs ys (fitted xs (signedText m (total gs))) → Right
+  some : (m : Bool) → ReadOf (Says s) (seenAs m) gs → Answers r xs ys (fitted xs (signedDecimal m (total gs))) → Right
   some m p a = record {
     sentence = λ t x. let e = p .reads (x .minus) (x .magnitude) (x .says) in rw (x .text, ← e .1, ← seen-sign m (x .minus) (e .0)) a;
-    none = λ f. seen-done m (p .refuses (λ k n q. f (signedText k n) (record { minus = k; magnitude = n; says = q; text = refl })));
+    none = λ f. seen-done m (p .refuses (λ k n q. f (signedDecimal k n) (record { minus = k; magnitude = n; says = q; text = refl })));
   }
 
   pub read-right : (seen : Seen) → ReadOf (Says s) seen gs → Answers r xs ys (answered seen (total gs) xs) → Right

@@ -5,7 +5,7 @@ use native.Mathlib.Nat.{div-one}
 use native.Mathlib.Omega.{arith}
 use mathlib.Core.List.{[], _∷_, _++_}
 use mathlib.Core.Path.{_≡_, refl}
-use Rattle.figures.specs.Text.{fixed}
+use Rattle.figures.specs.Written.{fixed}
 use Rattle.figures.proofs.Laws.Digits.{thousand}
 use Rattle.figures.proofs.Laws.Groups.{rest-turn}
 use Rattle.figures.proofs.Laws.Text.{fixed-split}

@@ -9,7 +9,7 @@ ghost use Prim.Native.Nat.{_*_, _≤_, _<_};
 ghost use lib.ListN.{length};
 ghost use Rattle.base.specs.Buffer.{over};
 ghost use Rattle.base.specs.Answer.{fitted, Answers};
-ghost use Rattle.figures.specs.Text.{fixed, text, signedText};
+ghost use Rattle.figures.specs.Written.{fixed, decimal, signedDecimal};
 ghost use Rattle.figures.specs.Groups.{total, Groups};
 ghost use Rattle.groups.specs.Highest.{Highest};
 ghost use Rattle.numerals.specs.Reading.{answered};
@@ -20,7 +20,7 @@ const ZERO: u16 = 48;
 // How many digits a group has without leading zeros.
 fn group_size(x: u16) -> usize
     requires { ⌜ x < 1000 ⌝ }
-    ensures { λ r. ⌜ r ≡ length (text x) ⌝ }
+    ensures { λ r. ⌜ r ≡ length (decimal x) ⌝ }
 {
     if x < 10 {
         return 1;
@@ -35,7 +35,7 @@ fn group_size(x: u16) -> usize
 pub fn text_size(n: usize, g: &[u16]) -> usize
     requires { ⌜ Groups (now g) × Highest (now g) n ⌝ }
     requires { ⌜ (0 < length (now g)) × (length (now g) ≤ 34) ⌝ }
-    ensures { λ r. ⌜ r ≡ length (text (total (now (g .entry)))) ⌝ }
+    ensures { λ r. ⌜ r ≡ length (decimal (total (now (g .entry)))) ⌝ }
 {
     if n == 0 {
         return 1;
@@ -82,9 +82,9 @@ fn put_groups(g: &[u16], o: usize, out: &mut [u8])
 pub fn put_text(g: &[u16], out: &mut [u8], w: usize)
     requires { ⌜ Groups (now g) ⌝ }
     requires { ⌜ (0 < length (now g)) × (length (now g) ≤ 34) ⌝ }
-    requires { ⌜ w ≡ length (text (total (now g))) ⌝ }
+    requires { ⌜ w ≡ length (decimal (total (now g))) ⌝ }
     requires { ⌜ w ≤ length (now out) ⌝ }
-    ensures { λ _. ⌜ now (out .exit) ≡ over (now (out .entry)) (text (total (now (g .entry)))) ⌝ }
+    ensures { λ _. ⌜ now (out .exit) ≡ over (now (out .entry)) (decimal (total (now (g .entry)))) ⌝ }
 {
     let o = (w - 1) / 3;
     let i = w - o * 3;
@@ -96,7 +96,7 @@ pub fn put_text(g: &[u16], out: &mut [u8], w: usize)
 pub fn number_size(minus: bool, n: usize, g: &[u16]) -> usize
     requires { ⌜ Groups (now g) × Highest (now g) n ⌝ }
     requires { ⌜ (0 < length (now g)) × (length (now g) ≤ 34) ⌝ }
-    ensures { λ r. ⌜ (r ≡ length (signedText minus (total (now (g .entry))))) × (r ≤ 103) ⌝ }
+    ensures { λ r. ⌜ (r ≡ length (signedDecimal minus (total (now (g .entry))))) × (r ≤ 103) ⌝ }
 {
     if minus {
         text_size(n, g) + 1
@@ -109,9 +109,9 @@ pub fn number_size(minus: bool, n: usize, g: &[u16]) -> usize
 pub fn put_signed(minus: bool, g: &[u16], out: &mut [u8], w: usize)
     requires { ⌜ Groups (now g) ⌝ }
     requires { ⌜ (0 < length (now g)) × (length (now g) ≤ 34) ⌝ }
-    requires { ⌜ w ≡ length (signedText minus (total (now g))) ⌝ }
+    requires { ⌜ w ≡ length (signedDecimal minus (total (now g))) ⌝ }
     requires { ⌜ w ≤ length (now out) ⌝ }
-    ensures { λ _. ⌜ now (out .exit) ≡ over (now (out .entry)) (signedText minus (total (now (g .entry)))) ⌝ }
+    ensures { λ _. ⌜ now (out .exit) ≡ over (now (out .entry)) (signedDecimal minus (total (now (g .entry)))) ⌝ }
 {
     if minus {
         out[0] = b'-';
@@ -125,7 +125,7 @@ pub fn put_signed(minus: bool, g: &[u16], out: &mut [u8], w: usize)
 pub fn put_number(minus: bool, n: usize, g: &[u16], out: &mut [u8]) -> Answer
     requires { ⌜ Groups (now g) × Highest (now g) n ⌝ }
     requires { ⌜ (0 < length (now g)) × (length (now g) ≤ 34) ⌝ }
-    ensures { λ r. ⌜ Answers r (now (out .entry)) (now (out .exit)) (fitted (now (out .entry)) (signedText minus (total (now (g .entry))))) ⌝ }
+    ensures { λ r. ⌜ Answers r (now (out .entry)) (now (out .exit)) (fitted (now (out .entry)) (signedDecimal minus (total (now (g .entry))))) ⌝ }
 {
     let w = number_size(minus, n, g);
     if out.len() < w {

@@ -8,16 +8,16 @@ ghost use Prim.Native.Nat.{_≤_, _<_};
 ghost use lib.ListN.{length};
 ghost use Rattle.base.specs.Buffer.{over};
 ghost use Rattle.base.specs.Answer.{fitted, Answers};
-ghost use Rattle.figures.specs.Text.{fixed};
+ghost use Rattle.figures.specs.Written.{fixed};
 ghost use Rattle.figures.specs.Groups.{total, Groups};
 ghost use Rattle.groups.specs.Highest.{Highest};
-ghost use Rattle.figures.specs.Money.{moneyText};
+ghost use Rattle.figures.specs.Written.{moneyDecimal};
 
 // The length of the money text of the number with the groups g, of n orders, and h hundredths.
 pub fn money_size(n: usize, g: &[u16], h: u32) -> usize
     requires { ⌜ Groups (now g) × Highest (now g) n ⌝ }
     requires { ⌜ (0 < length (now g)) × (length (now g) ≤ 34) ⌝ }
-    ensures { λ r. ⌜ r ≡ length (moneyText (total (now (g .entry))) h) ⌝ }
+    ensures { λ r. ⌜ r ≡ length (moneyDecimal (total (now (g .entry))) h) ⌝ }
 {
     if h == 0 {
         text_size(n, g)
@@ -43,9 +43,9 @@ fn put_hundredths(h: u32, out: &mut [u8])
 pub fn put_money(g: &[u16], h: u32, out: &mut [u8], w: usize)
     requires { ⌜ Groups (now g) ⌝ }
     requires { ⌜ (0 < length (now g)) × (length (now g) ≤ 34) ⌝ }
-    requires { ⌜ (w ≡ length (moneyText (total (now g)) h)) × (h < 100) ⌝ }
+    requires { ⌜ (w ≡ length (moneyDecimal (total (now g)) h)) × (h < 100) ⌝ }
     requires { ⌜ w ≤ length (now out) ⌝ }
-    ensures { λ _. ⌜ now (out .exit) ≡ over (now (out .entry)) (moneyText (total (now (g .entry))) h) ⌝ }
+    ensures { λ _. ⌜ now (out .exit) ≡ over (now (out .entry)) (moneyDecimal (total (now (g .entry))) h) ⌝ }
 {
     if h == 0 {
         put_text(g, out, w);
@@ -61,7 +61,7 @@ pub fn put_money_text(n: usize, g: &[u16], h: u32, out: &mut [u8]) -> Answer
     requires { ⌜ Groups (now g) × Highest (now g) n ⌝ }
     requires { ⌜ (0 < length (now g)) × (length (now g) ≤ 34) ⌝ }
     requires { ⌜ h < 100 ⌝ }
-    ensures { λ r. ⌜ Answers r (now (out .entry)) (now (out .exit)) (fitted (now (out .entry)) (moneyText (total (now (g .entry))) h)) ⌝ }
+    ensures { λ r. ⌜ Answers r (now (out .entry)) (now (out .exit)) (fitted (now (out .entry)) (moneyDecimal (total (now (g .entry))) h)) ⌝ }
 {
     let w = money_size(n, g, h);
     if out.len() < w {

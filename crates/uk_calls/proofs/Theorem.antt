@@ -8,7 +8,8 @@ use native.Mathlib.Omega.{arith}
 use lib.Dec.{eqb}
 use Rattle.base.specs.Join.{joined}
 use Rattle.base.specs.Claim.{Readable}
-use Rattle.figures.specs.Text.{value, negative, unsigned, signedText}
+use Rattle.figures.specs.Text.{value, negative, unsigned}
+use Rattle.figures.specs.Written.{signedDecimal}
 use Rattle.figures.specs.Groups.{groupsOf}
 use Rattle.figures.proofs.Laws.Digits.{thousand}
 use Rattle.figures.proofs.Laws.Plain.{plain-digits}
@@ -40,7 +41,7 @@ module _ (gender case : ℕ) where
           derives = sentence (ukrainian gender case) (negative t) n h (zero-plain t (f .0));
           bytes = refl;
         };
-        text = sym (ap (signedText (negative t)) (sym (total-groups 22 n h)) ∙ text-round 22 t (omega arith) (f .0) (f .1));
+        text = sym (ap (signedDecimal (negative t)) (sym (total-groups 22 n h)) ∙ text-round 22 t (omega arith) (f .0) (f .1));
       }
 
   -- a sentence's value is admitted, and is spelled as that very sentence
@@ -64,7 +65,7 @@ module _ (gender case : ℕ) where
     decided s = go (says-decided (ukrainian gender case) (lawful gender case hg hc) s)
       where
         go : Dec ((minus : Bool) × ((n : ℕ) × Says (ukrainian gender case) s minus n)) → Dec ((t : List ℕ) × Means gender case s t)
-        go (yes p) = yes (signedText (p .0) (p .1 .0), record { minus = p .0; magnitude = p .1 .0; says = p .1 .1; text = refl })
+        go (yes p) = yes (signedDecimal (p .0) (p .1 .0), record { minus = p .0; magnitude = p .1 .0; says = p .1 .1; text = refl })
         go (no f) = no (λ p. f (p .1 .minus, (p .1 .magnitude, p .1 .says)))
 
     pub readable : Readable Admitted (cardinal gender case) (Means gender case)

@@ -12,7 +12,8 @@ use Rattle.base.specs.Answer.{refused, fitted, Answers, Reads as ReadsAs}
 use Rattle.base.specs.declared.Answer.{Answer}
 use Rattle.figures.specs.Text.{value, unsigned}
 use Rattle.figures.specs.Groups.{groupsOf, total}
-use Rattle.figures.specs.Money.{wholeText, hundredthsText, moneyText}
+use Rattle.figures.specs.Money.{wholeText, hundredthsText}
+use Rattle.figures.specs.Written.{moneyDecimal}
 use Rattle.uk.specs.Settings.{inRange}
 use Rattle.uk_money.specs.Currencies.{Currency}
 use Rattle.uk_money.specs.Codes.{placeOf}
@@ -56,15 +57,15 @@ module _ (c : Currency) (case : ℕ) (s gs xs ys : List ℕ) (r : Answer) where
   pub seen-none : ReadMoney c case s Refused gs → Answers r xs ys (refused 6 0) → ReadsAs (Means c case) s r xs ys
   seen-none p a = record { sentence = λ t q. seen-not (q .hundredths) (p .reads (q .whole) (q .hundredths) (q .says) .0); none = λ f. a }
 
-  pub seen-some : (h : ℕ) → ReadMoney c case s (Amount h) gs → Answers r xs ys (fitted xs (moneyText (total gs) h)) → ReadsAs (Means c case) s r xs ys
+  pub seen-some : (h : ℕ) → ReadMoney c case s (Amount h) gs → Answers r xs ys (fitted xs (moneyDecimal (total gs) h)) → ReadsAs (Means c case) s r xs ys
   seen-some h p a = record {
     sentence = λ t q.
         let e = p .reads (q .whole) (q .hundredths) (q .says) in
         let k : q .hundredths ≡ h = same h (q .hundredths) (e .0) in
-        let f : t ≡ moneyText (total gs) h = q .text ∙ ap (moneyText (q .whole)) k ∙ ap (λ (n : ℕ). moneyText n h) (sym (e .1)) in
+        let f : t ≡ moneyDecimal (total gs) h = q .text ∙ ap (moneyDecimal (q .whole)) k ∙ ap (λ (n : ℕ). moneyDecimal n h) (sym (e .1)) in
         subst (λ (x : List ℕ). Answers r xs ys (fitted xs x)) (sym f) a;
     none = λ f.
-        let e = p .refuses (λ n k q. f (moneyText n k) (record { whole = n; hundredths = k; says = q; text = refl })) in
+        let e = p .refuses (λ n k q. f (moneyDecimal n k) (record { whole = n; hundredths = k; says = q; text = refl })) in
         absurd (omega (arith, e));
   }
     where

@@ -11,8 +11,10 @@ use lib.Dec.{leb, eqb, lit<}
 use lib.ListN.{length, getD, take, drop, length-take, length-append}
 use lib.Seq.{take-at, drop-at, getD-append-seam}
 use borrow.Author.Tests.{ne-eqb, eq-eqb, le-leb, leb-true, leb-false}
-use Rattle.figures.specs.Text.{digits, plain, value, negative, unsigned, wellFormed, fixed, text}
-use Rattle.figures.specs.Money.{pointed, wholeText, hundredthsText, hundredths, moneyFormed, moneyText, moneyLimit}
+use Rattle.figures.specs.Text.{digits, plain, value, negative, unsigned, wellFormed}
+use Rattle.figures.specs.Written.{fixed, decimal}
+use Rattle.figures.specs.Money.{pointed, wholeText, hundredthsText, hundredths, moneyFormed, moneyLimit}
+use Rattle.figures.specs.Written.{moneyDecimal}
 use Rattle.figures.specs.Refusals.{refusalOf, judgeMoney}
 use Rattle.figures.proofs.Laws.Digits.{value-lt, digits-at, digit-low}
 use Rattle.figures.proofs.Laws.Plain.{plain-digits, plain-least}
@@ -103,58 +105,58 @@ module _ (t : List ℕ) (p : Parts t) where
       go true e l = let m : length (take (length t - 3) t) ≤ 20 = rw e at l in omega (arith, length-take (length t - 3) t)
       go false e l = let m : length t ≤ 20 = rw e at l in omega arith
 
-  pub parts-text : moneyText (value (unsigned (wholeText t))) (value (hundredthsText t)) ≡ t
+  pub parts-text : moneyDecimal (value (unsigned (wholeText t))) (value (hundredthsText t)) ≡ t
   parts-text = money-round t (p .formed) (p .sign) short
 
 -- the text of a whole part and hundredths
 module _ (w h : ℕ) (l : w ≤ moneyLimit) (k : h < 100) where
-  signed : Signed false w 102 (text w)
+  signed : Signed false w 102 (decimal w)
   signed = signed-text false w 102 (omega arith) (omega arith) (lt-of-le-of-lt l (lit< tt)) (λ e. let z : _≡_ {A = ℕ} 0 1 = cc in absurd (omega arith))
 
-  own : unsigned (text w) ≡ text w
-  own = unsigned-plain (text w) (signed .sign)
+  own : unsigned (decimal w) ≡ decimal w
+  own = unsigned-plain (decimal w) (signed .sign)
 
-  text-digits : digits (text w) ≡ true
-  text-digits = plain-digits (text w) (ap plain (sym own) ∙ formed-unsigned (text w) (signed .formed))
+  text-digits : digits (decimal w) ≡ true
+  text-digits = plain-digits (decimal w) (ap plain (sym own) ∙ formed-unsigned (decimal w) (signed .formed))
 
-  no-point : pointed (text w) ≡ false
-  no-point = go (leb 3 (length (text w))) refl
+  no-point : pointed (decimal w) ≡ false
+  no-point = go (leb 3 (length (decimal w))) refl
     where
-      go : (b : Bool) → leb 3 (length (text w)) ≡ b → (b && eqb (getD (text w) (length (text w) - 3) 0) 46) ≡ false
+      go : (b : Bool) → leb 3 (length (decimal w)) ≡ b → (b && eqb (getD (decimal w) (length (decimal w) - 3) 0) 46) ≡ false
       go true e =
-          let m = leb-true 3 (length (text w)) e in
-          let d = digit-low (getD (text w) (length (text w) - 3) 0) (digits-at (text w) (length (text w) - 3) text-digits (omega arith)) in
-          ne-eqb (getD (text w) (length (text w) - 3) 0) 46 (λ z. omega arith)
+          let m = leb-true 3 (length (decimal w)) e in
+          let d = digit-low (getD (decimal w) (length (decimal w) - 3) 0) (digits-at (decimal w) (length (decimal w) - 3) text-digits (omega arith)) in
+          ne-eqb (getD (decimal w) (length (decimal w) - 3) 0) 46 (λ z. omega arith)
       go false e = refl
 
-  none-parts : h ≡ 0 → (Parts (text w)) × (value (unsigned (wholeText (text w))) ≡ w) × (value (hundredthsText (text w)) ≡ h)
+  none-parts : h ≡ 0 → (Parts (decimal w)) × (value (unsigned (wholeText (decimal w))) ≡ w) × (value (hundredthsText (decimal w)) ≡ h)
   none-parts z =
-      let v : value (unsigned (wholeText (text w))) ≡ w = rw no-point (signed .means) in
-      (record { formed = money-plain (text w) no-point ∙ signed .formed; sign = signed .sign; within = rw v l }, v, rw (no-point, z) refl)
+      let v : value (unsigned (wholeText (decimal w))) ≡ w = rw no-point (signed .means) in
+      (record { formed = money-plain (decimal w) no-point ∙ signed .formed; sign = signed .sign; within = rw v l }, v, rw (no-point, z) refl)
 
   -- with a '.' and two digits
   abbrev with-point : List ℕ
-  with-point = text w ++ (46 ∷ fixed 2 h)
+  with-point = decimal w ++ (46 ∷ fixed 2 h)
 
-  size : length with-point ≡ length (text w) + 3
-  size = length-append (text w) (46 ∷ fixed 2 h)
+  size : length with-point ≡ length (decimal w) + 3
+  size = length-append (decimal w) (46 ∷ fixed 2 h)
 
-  at-three : length with-point - 3 ≡ length (text w)
+  at-three : length with-point - 3 ≡ length (decimal w)
   at-three = omega (arith, size)
 
   point : pointed with-point ≡ true
   point =
       let a : leb 3 (length with-point) ≡ true = le-leb 3 (length with-point) (omega (arith, size)) in
-      let b : getD with-point (length with-point - 3) 0 ≡ 46 = ap (λ (i : ℕ). getD with-point i 0) at-three ∙ getD-append-seam (text w) 46 (fixed 2 h) 0 in
+      let b : getD with-point (length with-point - 3) 0 ≡ 46 = ap (λ (i : ℕ). getD with-point i 0) at-three ∙ getD-append-seam (decimal w) 46 (fixed 2 h) 0 in
       rw (a, eq-eqb (getD with-point (length with-point - 3) 0) 46 b) refl
 
-  whole-part : wholeText with-point ≡ text w
-  whole-part = rw point (take-at (text w) (46 ∷ fixed 2 h) (length with-point - 3) (sym at-three))
+  whole-part : wholeText with-point ≡ decimal w
+  whole-part = rw point (take-at (decimal w) (46 ∷ fixed 2 h) (length with-point - 3) (sym at-three))
 
   hundredths-part : hundredthsText with-point ≡ fixed 2 h
   hundredths-part =
-      let e : length (text w ++ (46 ∷ [])) ≡ length with-point - 2 = length-append (text w) (46 ∷ []) ∙ omega (arith, size) in
-      rw point (ap (drop (length with-point - 2)) (sym (append-assoc (text w) (46 ∷ []) (fixed 2 h))) ∙ drop-at (text w ++ (46 ∷ [])) (fixed 2 h) (length with-point - 2) e)
+      let e : length (decimal w ++ (46 ∷ [])) ≡ length with-point - 2 = length-append (decimal w) (46 ∷ []) ∙ omega (arith, size) in
+      rw point (ap (drop (length with-point - 2)) (sym (append-assoc (decimal w) (46 ∷ []) (fixed 2 h))) ∙ drop-at (decimal w ++ (46 ∷ [])) (fixed 2 h) (length with-point - 2) e)
 
   front-sign : (s r : List ℕ) → 0 < length s → negative s ≡ false → negative (s ++ r) ≡ false
   front-sign [] r z e = absurd (omega arith)
@@ -165,20 +167,20 @@ module _ (w h : ℕ) (l : w ≤ moneyLimit) (k : h < 100) where
 
   some-parts : (h ≡ 0 → ⊥) → Parts with-point × (value (unsigned (wholeText with-point)) ≡ w) × (value (hundredthsText with-point) ≡ h)
   some-parts z =
-      let q : unsigned (wholeText with-point) ≡ text w = ap unsigned whole-part ∙ own in
+      let q : unsigned (wholeText with-point) ≡ decimal w = ap unsigned whole-part ∙ own in
       let v : value (unsigned (wholeText with-point)) ≡ w = ap (λ (s : List ℕ). value (unsigned s)) whole-part ∙ signed .means in
-      let f : plain (unsigned (wholeText with-point)) ≡ true = ap (λ (s : List ℕ). plain (unsigned s)) whole-part ∙ formed-unsigned (text w) (signed .formed) in
+      let f : plain (unsigned (wholeText with-point)) ≡ true = ap (λ (s : List ℕ). plain (unsigned s)) whole-part ∙ formed-unsigned (decimal w) (signed .formed) in
       let d : digits (hundredthsText with-point) ≡ true = ap digits hundredths-part ∙ fixed-digits 2 h in
       let n : eqb (value (hundredthsText with-point)) 0 ≡ false = ne-eqb (value (hundredthsText with-point)) 0 (λ e. z (sym hundredths-value ∙ e)) in
       let g : hundredths (hundredthsText with-point) ≡ true = rw (d, n) refl in (
-        record { formed = money-pointed with-point point f ∙ g; sign = front-sign (text w) (46 ∷ fixed 2 h) (text-some w) (signed .sign); within = rw v l },
+        record { formed = money-pointed with-point point f ∙ g; sign = front-sign (decimal w) (46 ∷ fixed 2 h) (text-some w) (signed .sign); within = rw v l },
         v,
         hundredths-value,
       )
 
-  pub text-parts : Parts (moneyText w h) × (value (unsigned (wholeText (moneyText w h))) ≡ w) × (value (hundredthsText (moneyText w h)) ≡ h)
+  pub text-parts : Parts (moneyDecimal w h) × (value (unsigned (wholeText (moneyDecimal w h))) ≡ w) × (value (hundredthsText (moneyDecimal w h)) ≡ h)
   text-parts = go (ℕ-discrete h 0)
     where
-      go : Dec (h ≡ 0) → Parts (moneyText w h) × (value (unsigned (wholeText (moneyText w h))) ≡ w) × (value (hundredthsText (moneyText w h)) ≡ h)
+      go : Dec (h ≡ 0) → Parts (moneyDecimal w h) × (value (unsigned (wholeText (moneyDecimal w h))) ≡ w) × (value (hundredthsText (moneyDecimal w h)) ≡ h)
       go (yes z) = rw (money-none w h z) (none-parts z)
       go (no z) = rw (money-some w h z) (some-parts z)

@@ -5,7 +5,8 @@ use mathlib.Core.Path.{_≡_, refl, sym, ap, _∙_, subst}
 use mathlib.Core.List.{List}
 use Rattle.base.specs.Claim.{Readable}
 use Rattle.figures.specs.Text.{value, unsigned}
-use Rattle.figures.specs.Money.{wholeText, hundredthsText, moneyText}
+use Rattle.figures.specs.Money.{wholeText, hundredthsText}
+use Rattle.figures.specs.Written.{moneyDecimal}
 use Rattle.uk_money.specs.Currencies.{Currency, currencyAt}
 use Rattle.uk_money.specs.MoneyGrammar.{SaysMoney}
 use Rattle.uk_money_read.proofs.Made.{says-once}
@@ -31,8 +32,8 @@ module _ (c : Currency) (case : ℕ) where
       let a = says-spelled c case (m .says) in
       let p = text-parts (m .whole) (m .hundredths) (a .0) (a .1) in
       rw (m .text) (
-        parts-admitted (moneyText (m .whole) (m .hundredths)) (p .0),
-        ap (λ (n : ℕ). spelled c case n (value (hundredthsText (moneyText (m .whole) (m .hundredths))))) (p .1) ∙ ap (spelled c case (m .whole)) (p .2) ∙ a .2,
+        parts-admitted (moneyDecimal (m .whole) (m .hundredths)) (p .0),
+        ap (λ (n : ℕ). spelled c case n (value (hundredthsText (moneyDecimal (m .whole) (m .hundredths))))) (p .1) ∙ ap (spelled c case (m .whole)) (p .2) ∙ a .2,
       )
 
 module _ (i case : ℕ) (hi : i < 44) (hc : case < 6) where
@@ -45,7 +46,7 @@ module _ (i case : ℕ) (hi : i < 44) (hc : case < 6) where
   decided s = go (says-decided i case hi hc s)
     where
       go : Dec ((n : ℕ) × ((h : ℕ) × SaysMoney (currencyAt i) case s n h)) → Dec ((t : List ℕ) × Means (currencyAt i) case s t)
-      go (yes p) = yes (moneyText (p .0) (p .1 .0), record { whole = p .0; hundredths = p .1 .0; says = p .1 .1; text = refl })
+      go (yes p) = yes (moneyDecimal (p .0) (p .1 .0), record { whole = p .0; hundredths = p .1 .0; says = p .1 .1; text = refl })
       go (no f) = no (λ p. f (p .1 .whole, (p .1 .hundredths, p .1 .says)))
 
   pub readable : Readable Admitted (moneyPhrase (currencyAt i) case) (Means (currencyAt i) case)

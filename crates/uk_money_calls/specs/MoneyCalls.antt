@@ -8,7 +8,8 @@ use lib.Dec.{eqb}
 use Rattle.base.specs.Join.{joined}
 use Rattle.figures.specs.Text.{value, unsigned}
 use Rattle.figures.specs.Groups.{groupsOf}
-use Rattle.figures.specs.Money.{wholeText, hundredthsText, moneyText}
+use Rattle.figures.specs.Money.{wholeText, hundredthsText}
+use Rattle.figures.specs.Written.{moneyDecimal}
 use Rattle.figures.specs.Refusals.{refusalOf, judgeMoney}
 use Rattle.uk.specs.Settings.{unlessSettings}
 use Rattle.uk_money.specs.Currencies.{Currency}
@@ -42,4 +43,4 @@ pub record Means (c : Currency) (case : ℕ) (s t : List ℕ) : Type 0 where
   pub whole : ℕ
   pub hundredths : ℕ
   pub says : SaysMoney c case s whole hundredths
-  pub text : t ≡ moneyText whole hundredths
+  pub text : t ≡ moneyDecimal whole hundredths

@@ -47,7 +47,7 @@ wrote k xs a b ys zs l e f =
 -- t written where it fits, and refusal 7 where it does not
 module _ (r : Answer) (xs ys t : List ℕ) (e : r .length ≡ length t) where
   pub answer-yes : r .number ≡ 0 → length t ≤ length xs → ys ≡ over xs t → Answers r xs ys (fitted xs t)
-  answer-yes n l w = rw (le-ltb (length xs) (length t) l) (record { number = n; length = e; buffer = w })
+  answer-yes n l w = rw (le-ltb (length xs) (length t) l) (record { reported = n; sized = e; held = w })
 
   pub answer-no : r .number ≡ 7 → length xs < length t → ys ≡ xs → Answers r xs ys (fitted xs t)
-  answer-no n l w = rw (lt-ltb (length xs) (length t) l) (record { number = n; length = e; buffer = w })
+  answer-no n l w = rw (lt-ltb (length xs) (length t) l) (record { reported = n; sized = e; held = w })

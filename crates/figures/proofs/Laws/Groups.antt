@@ -9,7 +9,8 @@ use mathlib.Core.List.{List, [], _∷_}
 use mathlib.Core.Path.{_≡_, refl, sym, ap, _∙_}
 use lib.ListN.{length, getD}
 use Rattle.figures.specs.Groups.{groupsOf, total, Groups}
-use Rattle.figures.specs.Text.{digits, value, text}
+use Rattle.figures.specs.Text.{digits, value}
+use Rattle.figures.specs.Written.{decimal}
 use Rattle.figures.proofs.Laws.Digits.{value-lt, thousand}
 use Rattle.figures.proofs.Laws.Text.{text-size-le}
 
@@ -57,7 +58,7 @@ pub total-lt : (gs : List ℕ) → Groups gs → total gs < 1000 ^ length gs
 total-lt [] g = omega arith
 total-lt (x ∷ gs) g = let h : total gs < 1000 ^ length gs = total-lt gs (g .1) in let s : x < 1000 = g .0 in rw pow-suc (omega arith)
 
-pub total-size : (gs : List ℕ) → Groups gs → 0 < length gs → length (text (total gs)) ≤ length gs * 3
+pub total-size : (gs : List ℕ) → Groups gs → 0 < length gs → length (decimal (total gs)) ≤ length gs * 3
 total-size gs g h = text-size-le (total gs) (length gs * 3) (omega arith) (rw thousand (total-lt gs g))
 
 -- k groups hold the value of k * 3 digits

@@ -8,8 +8,10 @@ use mathlib.Core.Path.{_≡_, refl, ap, _∙_}
 use lib.Dec.{leb, eqb}
 use lib.ListN.{length, getD, take, drop, length-append, length-drop}
 use borrow.Author.Tests.{leb-true, eqb-true, eqb-false, eq-eqb, ne-eqb}
-use Rattle.figures.specs.Money.{pointed, wholeText, hundredthsText, hundredths, moneyFormed, moneyText}
-use Rattle.figures.specs.Text.{digits, plain, wellFormed, unsigned, fixed, text}
+use Rattle.figures.specs.Money.{pointed, wholeText, hundredthsText, areHundredths, moneyFormed}
+use Rattle.figures.specs.Written.{moneyDecimal}
+use Rattle.figures.specs.Text.{digits, plain, wellFormed, unsigned}
+use Rattle.figures.specs.Written.{fixed, decimal}
 use Rattle.figures.proofs.Laws.Digits.{digits-at, digit-low, digits-head, digits-tail}
 use Rattle.figures.proofs.Laws.Sign.{formed-unsigned}
 
@@ -41,7 +43,7 @@ eqb-same a b x y f g = go (eqb x y) refl
     go true e = eq-eqb a b (g (eqb-true x y e))
     go false e = ne-eqb a b (λ p. eqb-false x y e (f p))
 
-pub hundredths-low : (t : List ℕ) → length t ≡ 2 → digits t ≡ true → getD t 0 0 ≡ 48 → hundredths t ≡ not (eqb (getD t 1 0) 48)
+pub hundredths-low : (t : List ℕ) → length t ≡ 2 → digits t ≡ true → getD t 0 0 ≡ 48 → areHundredths t ≡ not (eqb (getD t 1 0) 48)
 hundredths-low [] l d e = absurd (omega arith)
 hundredths-low (a ∷ []) l d e = absurd (omega arith)
 hundredths-low (a ∷ b ∷ c ∷ r) l d e = absurd (omega arith)
@@ -50,7 +52,7 @@ hundredths-low (a ∷ b ∷ []) l d e =
     let z : eqb ((a - 48) * 10 ^ 1 + ((b - 48) * 10 ^ 0 + 0)) 0 ≡ eqb b 48 = eqb-same ((a - 48) * 10 ^ 1 + ((b - 48) * 10 ^ 0 + 0)) 0 b 48 (λ p. omega arith) (λ p. omega arith) in
     rw (d, z)
 
-pub hundredths-high : (t : List ℕ) → length t ≡ 2 → digits t ≡ true → (getD t 0 0 ≡ 48 → ⊥) → hundredths t ≡ true
+pub hundredths-high : (t : List ℕ) → length t ≡ 2 → digits t ≡ true → (getD t 0 0 ≡ 48 → ⊥) → areHundredths t ≡ true
 hundredths-high [] l d e = absurd (omega arith)
 hundredths-high (a ∷ []) l d e = absurd (omega arith)
 hundredths-high (a ∷ b ∷ c ∷ r) l d e = absurd (omega arith)
@@ -60,7 +62,7 @@ hundredths-high (a ∷ b ∷ []) l d e =
     rw (d, z)
 
 -- a money text by its parts
-pub money-pointed : (s : List ℕ) → pointed s ≡ true → plain (unsigned (wholeText s)) ≡ true → moneyFormed s ≡ hundredths (hundredthsText s)
+pub money-pointed : (s : List ℕ) → pointed s ≡ true → plain (unsigned (wholeText s)) ≡ true → moneyFormed s ≡ areHundredths (hundredthsText s)
 money-pointed s p q =
     let q₁ : plain (unsigned (take (length s - 3) s)) ≡ true = rw p at q in
     rw (p, q₁)
@@ -76,20 +78,20 @@ money-plain s p = rw p
 pub whole-plain : (s : List ℕ) → moneyFormed s ≡ true → plain (unsigned (wholeText s)) ≡ true
 whole-plain s e = go (pointed s) e
   where
-    go : (t : Bool) → cond t (plain (unsigned (cond t (take (length s - 3) s) s)) && hundredths (cond t (drop (length s - 2) s) [])) (wellFormed s) ≡ true →
+    go : (t : Bool) → cond t (plain (unsigned (cond t (take (length s - 3) s) s)) && areHundredths (cond t (drop (length s - 2) s) [])) (wellFormed s) ≡ true →
         plain (unsigned (cond t (take (length s - 3) s) s)) ≡ true
-    go true e = and-eq-true-iff (plain (unsigned (take (length s - 3) s))) (hundredths (drop (length s - 2) s)) .0 e .0
+    go true e = and-eq-true-iff (plain (unsigned (take (length s - 3) s))) (areHundredths (drop (length s - 2) s)) .0 e .0
     go false e = formed-unsigned s e
 
 -- the money text, with hundredths and without
-pub money-some : (w h : ℕ) → (h ≡ 0 → ⊥) → moneyText w h ≡ text w ++ (46 ∷ fixed 2 h)
+pub money-some : (w h : ℕ) → (h ≡ 0 → ⊥) → moneyDecimal w h ≡ decimal w ++ (46 ∷ fixed 2 h)
 money-some w h e = rw (ne-eqb h 0 e)
 
-pub money-none : (w h : ℕ) → h ≡ 0 → moneyText w h ≡ text w
-money-none w h e = rw e (append-nil (text w))
+pub money-none : (w h : ℕ) → h ≡ 0 → moneyDecimal w h ≡ decimal w
+money-none w h e = rw e (append-nil (decimal w))
 
-pub size-some : (w h : ℕ) → (h ≡ 0 → ⊥) → length (moneyText w h) ≡ length (text w) + 3
-size-some w h e = ap length (money-some w h e) ∙ length-append (text w) (46 ∷ fixed 2 h)
+pub size-some : (w h : ℕ) → (h ≡ 0 → ⊥) → length (moneyDecimal w h) ≡ length (decimal w) + 3
+size-some w h e = ap length (money-some w h e) ∙ length-append (decimal w) (46 ∷ fixed 2 h)
 
-pub size-none : (w h : ℕ) → h ≡ 0 → length (moneyText w h) ≡ length (text w)
+pub size-none : (w h : ℕ) → h ≡ 0 → length (moneyDecimal w h) ≡ length (decimal w)
 size-none w h e = ap length (money-none w h e)

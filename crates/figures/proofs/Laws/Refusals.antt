@@ -2,27 +2,15 @@
 -- Assumes nothing.
 use Prim.Native.Nat.{ℕ, _≤_}
 use native.Mathlib.Omega.{arith}
-use mathlib.Core.Bool.{Bool, true, false, not, and-true, and-false}
+use mathlib.Core.Bool.{Bool, true, false, not}
 use mathlib.Core.List.{List}
 use mathlib.Core.Path.{_≡_, refl, sym, ap, _∙_}
-use lib.Dec.{leb, ltb}
-use lib.ListN.{length}
+use lib.Dec.{ltb}
 use borrow.Author.Tests.{ltb-false, le-ltb}
-use Rattle.figures.specs.Refusals.{refusalOf, judged, judgeDigits}
+use Rattle.figures.specs.Judging.{judged}
 use Rattle.figures.specs.Text.{plain, value, negative, unsigned, wellFormed}
-use Rattle.figures.specs.declared.Judged.{Judged}
-use Rattle.figures.specs.declared.Judged.the-variants.{Fine, Malformed, Negative, Large}
-use Rattle.figures.proofs.Laws.Compare.{not-leb}
 use Rattle.figures.proofs.Laws.Plain.{plain-digits}
 use Rattle.figures.proofs.Laws.Sign.{digits-unsigned, unsigned-plain, formed-unsigned}
-
--- digits counted, where the sign is admitted and where it is not
-module _ (signed : Bool) (most : ℕ) (s : List ℕ) where
-  pub judge-signed : signed ≡ true → judged (not (wellFormed s)) false (not (leb (length (unsigned s)) most)) ≡ judgeDigits signed most s
-  judge-signed e = rw (e, and-false (negative s), not-leb)
-
-  pub judge-unsigned : signed ≡ false → judged (not (wellFormed s)) (negative s) (not (leb (length (unsigned s)) most)) ≡ judgeDigits signed most s
-  judge-unsigned e = rw (e, and-true (negative s), not-leb)
 
 -- a value with a limit, where no sign is admitted: a plain text, and any other
 module _ (s : List ℕ) (limit : ℕ) where
@@ -44,27 +32,20 @@ module _ (s : List ℕ) (limit : ℕ) where
           let n : _≡_ {A = ℕ} 0 1 = cc in
           absurd (omega arith)
 
--- nothing is refused where 01's number is 0
-pub number-zero : (j : Judged) → refusalOf j ≡ 0 → j ≡ Fine
-number-zero Fine e = refl
-number-zero Malformed e = absurd (omega arith)
-number-zero Negative e = absurd (omega arith)
-number-zero Large e = absurd (omega arith)
-
 -- a text of which nothing is refused is well formed, has no sign that is refused, and is within its limit; and only such a text
-pub record Admitted (isFormed isRefused : Bool) (size limit : ℕ) : Type 0 where
+pub record Passed (isFormed isRefused : Bool) (size limit : ℕ) : Type 0 where
   pub formed : isFormed ≡ true
   pub sign : isRefused ≡ false
   pub within : size ≤ limit
 
-pub admitted : (f r : Bool) (size limit : ℕ) → judged (not f) r (ltb limit size) ≡ Fine → Admitted f r size limit
-admitted f r size limit e = go f r (ltb limit size) refl e
+pub passed : (f r : Bool) (size limit : ℕ) → judged (not f) r (ltb limit size) ≡ 0 → Passed f r size limit
+passed f r size limit e = go f r (ltb limit size) refl e
   where
-    go : (f r t : Bool) → ltb limit size ≡ t → judged (not f) r t ≡ Fine → Admitted f r size limit
-    go false r t p e = let z : _≡_ {A = ℕ} 0 1 = cc in absurd (omega arith)
-    go true true t p e = let z : _≡_ {A = ℕ} 0 1 = cc in absurd (omega arith)
-    go true false true p e = let z : _≡_ {A = ℕ} 0 1 = cc in absurd (omega arith)
+    go : (f r t : Bool) → ltb limit size ≡ t → judged (not f) r t ≡ 0 → Passed f r size limit
+    go false r t p e = absurd (omega arith)
+    go true true t p e = absurd (omega arith)
+    go true false true p e = absurd (omega arith)
     go true false false p e = record { formed = refl; sign = refl; within = ltb-false limit size p }
 
-pub none-refused : {f r : Bool} {size limit : ℕ} → Admitted f r size limit → judged (not f) r (ltb limit size) ≡ Fine
+pub none-refused : {f r : Bool} {size limit : ℕ} → Passed f r size limit → judged (not f) r (ltb limit size) ≡ 0
 none-refused {f} {r} {size} {limit} a = rw (a .formed, a .sign, le-ltb limit size (a .within))

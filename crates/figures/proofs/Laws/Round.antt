@@ -11,18 +11,21 @@ use lib.ListN.{length, getD, take, drop, length-take, length-append}
 use lib.Seq.{split-at, getD-append-seam, take-append-seam, drop-append-add}
 use borrow.Author.Tests.{eqb-true, eqb-false, not-true, le-leb}
 use Rattle.figures.specs.Groups.{groupsOf, total, Groups}
-use Rattle.figures.specs.Money.{pointed, wholeText, hundredthsText, hundredths, moneyFormed, moneyText}
-use Rattle.figures.specs.Text.{digits, plain, value, text, fixed, wellFormed, negative, unsigned, signedText}
+use Rattle.figures.specs.Money.{pointed, wholeText, hundredthsText, areHundredths, moneyFormed, moneyLimit}
+use Rattle.figures.specs.Value.{IsAmount}
+use Rattle.figures.specs.Written.{moneyDecimal}
+use Rattle.figures.specs.Text.{digits, plain, value, wellFormed, negative, unsigned}
+use Rattle.figures.specs.Written.{decimal, fixed, signedDecimal}
 use Rattle.figures.proofs.Laws.Digits.{and-both}
 use Rattle.figures.proofs.Laws.Groups.{total-groups, groups-total, total-lt, hold}
 use Rattle.figures.proofs.Laws.Money.{digits-whole, money-none, pointed-size, hundredths-size, money-plain, money-pointed, money-some, whole-plain}
 use Rattle.figures.proofs.Laws.Plain.{plain-digits}
-use Rattle.figures.proofs.Laws.Sign.{digits-unsigned, unsigned-plain, signed-is, formed-unsigned}
+use Rattle.figures.proofs.Laws.Sign.{digits-unsigned, unsigned-plain, signed-is, formed-unsigned, plain-size}
 use Rattle.figures.proofs.Laws.Text.{value-fixed, fixed-digits, plain-text, fixed-value, text-value, value-text}
 
 -- text to groups to text: k groups, at most 34
 pub text-round : (k : ℕ) (xs : List ℕ) → k ≤ 34 → wellFormed xs ≡ true → length (unsigned xs) ≤ k * 3 →
-    signedText (negative xs) (total (groupsOf k (value (unsigned xs)))) ≡ xs
+    signedDecimal (negative xs) (total (groupsOf k (value (unsigned xs)))) ≡ xs
 text-round k xs m f h =
     let p : plain (unsigned xs) ≡ true = formed-unsigned xs f in
     rw (
@@ -32,7 +35,7 @@ text-round k xs m f h =
     (signed-is xs (negative xs) refl)
 
 -- groups to text to groups
-pub groups-round : (gs : List ℕ) → Groups gs → length gs ≤ 34 → groupsOf (length gs) (value (text (total gs))) ≡ gs
+pub groups-round : (gs : List ℕ) → Groups gs → length gs ≤ 34 → groupsOf (length gs) (value (decimal (total gs))) ≡ gs
 groups-round gs g m =
     let h : total gs < 10 ^ 102 = lt-of-lt-of-le (total-lt gs g) (pow-le-pow-right {n = 1000} (omega arith) {i = length gs} {j = 34} m) in
     rw (value-text (total gs) h) (groups-total gs g)
@@ -59,14 +62,14 @@ negative-take (suc k) (x ∷ r) e = e
 
 -- a money text is that of its whole part and its hundredths
 pub money-round : (xs : List ℕ) → moneyFormed xs ≡ true → negative xs ≡ false → length xs ≤ 102 →
-    moneyText (value (unsigned (wholeText xs))) (value (hundredthsText xs)) ≡ xs
+    moneyDecimal (value (unsigned (wholeText xs))) (value (hundredthsText xs)) ≡ xs
 money-round xs f n h = go (pointed xs) refl
   where
-    go : (t : Bool) → pointed xs ≡ t → moneyText (value (unsigned (wholeText xs))) (value (hundredthsText xs)) ≡ xs
+    go : (t : Bool) → pointed xs ≡ t → moneyDecimal (value (unsigned (wholeText xs))) (value (hundredthsText xs)) ≡ xs
     go false e =
         let u : unsigned xs ≡ xs = unsigned-plain xs n in
         let p : plain xs ≡ true = ap plain (sym u) ∙ formed-unsigned xs (sym (money-plain xs e) ∙ f) in
-        rw (e, u) (append-nil (text (value xs)) ∙ text-value xs p h)
+        rw (e, u) (append-nil (decimal (value xs)) ∙ text-value xs p h)
     go true e =
         let w : List ℕ = take (length xs - 3) xs in
         let d : List ℕ = drop (length xs - 2) xs in
@@ -78,28 +81,21 @@ money-round xs f n h = go (pointed xs) refl
         let dd : digits d ≡ true = ap digits (sym ed) ∙ c .0 in
         let nz : value (hundredthsText xs) ≡ 0 → ⊥ = eqb-false (value (hundredthsText xs)) 0 (not-true (eqb (value (hundredthsText xs)) 0) (c .1)) in
         let l2 : length d ≡ 2 = ap length (sym ed) ∙ hundredths-size xs e in
-        let a : text (value (unsigned (wholeText xs))) ≡ w = ap (λ (l : List ℕ). text (value l)) ew ∙ text-value w pw lw in
+        let a : decimal (value (unsigned (wholeText xs))) ≡ w = ap (λ (l : List ℕ). decimal (value l)) ew ∙ text-value w pw lw in
         let b : fixed 2 (value (hundredthsText xs)) ≡ d = ap (λ (l : List ℕ). fixed 2 (value l)) ed ∙ ap (λ (k : ℕ). fixed k (value d)) (sym l2) ∙ fixed-value d dd in
         money-some (value (unsigned (wholeText xs))) (value (hundredthsText xs)) nz ∙ rw (a, b) (pointed-is xs e)
 
--- the money text of w and h hundredths is well formed, has no sign, and means w and h
-pub record Amount (w h : ℕ) (xs : List ℕ) : Type 0 where
-  pub formed : moneyFormed xs ≡ true
-  pub sign : negative xs ≡ false
-  pub whole : value (unsigned (wholeText xs)) ≡ w
-  pub hundredths : value (hundredthsText xs) ≡ h
-
 -- of digits alone
-amount-whole : (xs : List ℕ) → plain xs ≡ true → Amount (value xs) 0 xs
+amount-whole : (xs : List ℕ) → plain xs ≡ true → IsAmount (value xs) 0 xs
 amount-whole xs p =
     let d : digits xs ≡ true = plain-digits xs p in
     let n : negative xs ≡ false = digits-unsigned xs d in
     let u : unsigned xs ≡ xs = unsigned-plain xs n in
     let e : pointed xs ≡ false = digits-whole xs d in
-    record { formed = rw (e, u, p, n); sign = n; whole = rw (e, u); hundredths = rw e }
+    record { formed = rw (e, u, p, n); sign = n; whole = rw (e, u); part = rw e }
 
 -- of digits, '.', and two digits that are not both zero
-module _ (a b : List ℕ) (p : plain a ≡ true) (d : hundredths b ≡ true) (l : length b ≡ 2) where
+module _ (a b : List ℕ) (p : plain a ≡ true) (d : areHundredths b ≡ true) (l : length b ≡ 2) where
   abbrev xs : List ℕ
   xs = a ++ (46 ∷ b)
 
@@ -124,25 +120,40 @@ module _ (a b : List ℕ) (p : plain a ≡ true) (d : hundredths b ≡ true) (l 
       go [] q = cc
       go (x ∷ t) q = digits-unsigned (x ∷ t) (plain-digits (x ∷ t) q)
 
-  amount-both : Amount (value a) (value b) xs
+  amount-both : IsAmount (value a) (value b) xs
   amount-both =
       let n : unsigned (wholeText xs) ≡ a = ap unsigned front ∙ unsigned-plain a (digits-unsigned a (plain-digits a p)) in
       record {
-        formed = money-pointed xs point (ap plain n ∙ p) ∙ ap hundredths back ∙ d;
+        formed = money-pointed xs point (ap plain n ∙ p) ∙ ap areHundredths back ∙ d;
         sign = unsigned-front;
         whole = ap value n;
-        hundredths = ap value back;
+        part = ap value back;
       }
 
-pub amount-text : (w h : ℕ) → w < 10 ^ 102 → h < 100 → Amount w h (moneyText w h)
+pub amount-text : (w h : ℕ) → w < 10 ^ 102 → h < 100 → IsAmount w h (moneyDecimal w h)
 amount-text w h l m = go (eqb h 0) refl
   where
-    go : (t : Bool) → eqb h 0 ≡ t → Amount w h (moneyText w h)
+    go : (t : Bool) → eqb h 0 ≡ t → IsAmount w h (moneyDecimal w h)
     go true e =
         let z : h ≡ 0 = eqb-true h 0 e in
-        rw (money-none w h z, z) (rw (value-text w l) at (amount-whole (text w) (plain-text w l)))
+        rw (money-none w h z, z) (rw (value-text w l) at (amount-whole (decimal w) (plain-text w l)))
     go false e =
         let n : h ≡ 0 → ⊥ = eqb-false h 0 e in
         let v : value (fixed 2 h) ≡ h = value-fixed 2 h ∙ mod-eq-of-lt m in
-        let d : hundredths (fixed 2 h) ≡ true = and-both (fixed-digits 2 h) (ap not (ap (λ (k : ℕ). eqb k 0) v ∙ e)) in
-        rw (money-some w h n) (rw (value-text w l, v) at (amount-both (text w) (fixed 2 h) (plain-text w l) d refl))
+        let d : areHundredths (fixed 2 h) ≡ true = and-both (fixed-digits 2 h) (ap not (ap (λ (k : ℕ). eqb k 0) v ∙ e)) in
+        rw (money-some w h n) (rw (value-text w l, v) at (amount-both (decimal w) (fixed 2 h) (plain-text w l) d refl))
+
+-- an amount's text is the one that is written
+pub amount-is : {w h : ℕ} {t : List ℕ} → IsAmount w h t → w ≤ moneyLimit → t ≡ moneyDecimal w h
+amount-is {w} {h} {t} x l =
+    let s : length (unsigned (wholeText t)) ≤ 20 = plain-size (unsigned (wholeText t)) 20 (whole-plain t (x .formed)) (omega arith) (rw (x .whole) (omega arith)) in
+    sym (rw (x .whole, x .part) at (money-round t (x .formed) (x .sign) (short s)))
+  where
+    short : length (unsigned (wholeText t)) ≤ 20 → length t ≤ 102
+    short s = go (pointed t) refl
+      where
+        go : (b : Bool) → pointed t ≡ b → length t ≤ 102
+        go false e = let u : length (unsigned t) ≤ 20 = rw e at s in omega (arith, u, ap length (unsigned-plain t (x .sign)))
+        go true e =
+            let u : length (take (length t - 3) t) ≤ 20 = rw (unsigned-plain (take (length t - 3) t) (negative-take (length t - 3) t (x .sign))) at (rw e at s) in
+            omega (arith, rw length-take at u)

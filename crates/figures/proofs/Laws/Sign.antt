@@ -1,19 +1,22 @@
 -- Texts with a sign.
 -- Assumes nothing.
-use Prim.Native.Nat.{ℕ, _+_, _^_, _≤_, _<_}
-use native.Mathlib.Nat.{lt-of-lt-of-le, pow-le-pow-right}
+use Prim.Native.Nat.{ℕ, zero, suc, _+_, _^_, _≤_, _<_}
+use native.Mathlib.Nat.{pow-le-pow-right}
 use native.Mathlib.Numerals.{add-one}
 use native.Mathlib.Omega.{arith}
 use mathlib.Core.Bool.{Bool, true, false, cond, not, _&&_, and-eq-true-iff}
 use mathlib.Core.List.{List, [], _∷_}
 use mathlib.Core.Path.{_≡_, refl, sym, ap, _∙_}
-use lib.Dec.{eqb}
+use lib.Dec.{leb, eqb}
 use lib.ListN.{length, getD, drop}
-use borrow.Author.Tests.{eqb-true, eq-eqb, ne-eqb, not-true}
-use Rattle.figures.specs.Text.{digits, plain, value, text, wellFormed, negative, unsigned, signedText}
+use borrow.Author.Tests.{leb-true, leb-false, eqb-true, eq-eqb, ne-eqb, not-true}
+use Rattle.figures.specs.Text.{digits, plain, value, wellFormed, negative, unsigned}
+use Rattle.figures.specs.Written.{decimal, signedDecimal}
+use Rattle.tables.proofs.Tests.{clash-of}
+use Rattle.figures.specs.Value.{IsNumber}
 use Rattle.figures.proofs.Laws.Digits.{and-both, digit-low, digits-head}
-use Rattle.figures.proofs.Laws.Plain.{plain-digits, plain-first}
-use Rattle.figures.proofs.Laws.Text.{value-text, plain-text, text-size-le}
+use Rattle.figures.proofs.Laws.Plain.{plain-digits, plain-least, plain-first}
+use Rattle.figures.proofs.Laws.Text.{text-value, value-text, plain-text}
 
 -- the sign by the first byte, and what stands after it
 pub negative-empty : (s : List ℕ) → length s ≡ 0 → negative s ≡ false
@@ -84,32 +87,51 @@ zero-first s f = go (negative s) refl
         ne-eqb (getD s 0 0) 48 (λ q. omega arith) ∙ sym (not-true (eqb (value (unsigned s)) 0) v)
 
 -- the text with the sign, by the sign
-pub sign-yes : (m : Bool) (n : ℕ) → m ≡ true → signedText m n ≡ 45 ∷ text n
+pub sign-yes : (m : Bool) (n : ℕ) → m ≡ true → signedDecimal m n ≡ 45 ∷ decimal n
 sign-yes m n e = rw e
 
-pub sign-no : (m : Bool) (n : ℕ) → m ≡ false → signedText m n ≡ text n
+pub sign-no : (m : Bool) (n : ℕ) → m ≡ false → signedDecimal m n ≡ decimal n
 sign-no m n e = rw e
 
 -- the number text of n, or of -n where n is above 0, is well formed, and means n with its sign
-pub record Signed (minus : Bool) (n most : ℕ) (xs : List ℕ) : Type 0 where
-  pub formed : wellFormed xs ≡ true
-  pub sign : negative xs ≡ minus
-  pub means : value (unsigned xs) ≡ n
-  pub size : length (unsigned xs) ≤ most
-
-pub signed-text : (minus : Bool) (n most : ℕ) → 1 ≤ most → most ≤ 102 → n < 10 ^ most → (minus ≡ true → 0 < n) → Signed minus n most (signedText minus n)
-signed-text minus n most l m h p =
-    let k : n < 10 ^ 102 = lt-of-lt-of-le h (pow-le-pow-right {n = 10} (omega arith) {i = most} {j = 102} m) in
-    go minus p (text n) (plain-text n k) (value-text n k) (text-size-le n most l h)
+pub number-text : (minus : Bool) (n : ℕ) → n < 10 ^ 102 → (minus ≡ true → 0 < n) → IsNumber minus n (signedDecimal minus n)
+number-text minus n h p = go minus p (decimal n) (plain-text n h) (value-text n h)
   where
-    go : (m : Bool) → (m ≡ true → 0 < n) → (t : List ℕ) → plain t ≡ true → value t ≡ n → length t ≤ most → Signed m n most (cond m (45 ∷ t) t)
-    go true p t f v l = record {
-      formed = and-both f (ap not (ne-eqb (value t) 0 (λ z. omega (arith, p refl))));
-      sign = refl;
-      means = v;
-      size = l;
-    }
-    go false p t f v l =
+    go : (m : Bool) → (m ≡ true → 0 < n) → (t : List ℕ) → plain t ≡ true → value t ≡ n → IsNumber m n (cond m (45 ∷ t) t)
+    go true p t f v = record { formed = and-both f (ap not (ne-eqb (value t) 0 (λ z. omega (arith, p refl)))); sign = refl; means = v }
+    go false p t f v =
         let e : negative t ≡ false = digits-unsigned t (plain-digits t f) in
         let u : unsigned t ≡ t = unsigned-plain t e in
-        record { formed = rw (u, f, e); sign = e; means = rw u v; size = rw u l }
+        record { formed = rw (u, f, e); sign = e; means = rw u v }
+
+-- a plain text is no longer than a power of ten above its value tells
+pub plain-size : (t : List ℕ) (most : ℕ) → plain t ≡ true → 1 ≤ most → value t < 10 ^ most → length t ≤ most
+plain-size [] most p l h = omega arith
+plain-size (b ∷ bs) most p l h = go (leb (suc (length bs)) most) refl
+  where
+    go : (c : Bool) → leb (suc (length bs)) most ≡ c → suc (length bs) ≤ most
+    go true e = leb-true (suc (length bs)) most e
+    go false e =
+        let q : most < suc (length bs) = leb-false (suc (length bs)) most e in
+        let a : 10 ^ length bs ≤ value (b ∷ bs) = plain-least b bs p (omega arith) in
+        let c : 10 ^ most ≤ 10 ^ length bs = pow-le-pow-right {n = 10} (omega arith) {i = most} {j = length bs} (omega arith) in
+        absurd (omega arith)
+
+-- so of a number text
+module _ {minus : Bool} {n : ℕ} {t : List ℕ} (x : IsNumber minus n t) where
+  pub number-size : (most : ℕ) → 1 ≤ most → n < 10 ^ most → length (unsigned t) ≤ most
+  number-size most l h = plain-size (unsigned t) most (formed-unsigned t (x .formed)) l (rw (x .means) h)
+
+  -- it is the one that is written
+  pub number-is : n < 10 ^ 102 → t ≡ signedDecimal minus n
+  number-is h =
+      let e : decimal n ≡ unsigned t = ap decimal (sym (x .means)) ∙ text-value (unsigned t) (formed-unsigned t (x .formed)) (number-size 102 (omega arith) h) in
+      sym (ap (λ (l : List ℕ). cond minus (45 ∷ l) l) e ∙ signed-is t minus (x .sign))
+
+  -- only a number above 0 has a sign
+  pub number-sign : minus ≡ true → 0 < n
+  number-sign e = go n refl
+    where
+      go : (k : ℕ) → n ≡ k → 0 < n
+      go zero z = let f : negative t ≡ false = zero-plain t (x .formed) (x .means ∙ z) in clash-of (sym f ∙ x .sign ∙ e)
+      go (suc k) z = omega arith

@@ -12,7 +12,8 @@ use lib.Dec.{leb, ltb, eqb}
 use lib.ListN.{length}
 use lib.Pow.{pow-add}
 use borrow.Author.Tests.{leb-true, leb-false, ltb-true, ltb-false}
-use Rattle.figures.specs.Text.{digits, plain, value, fixed, width, text}
+use Rattle.figures.specs.Text.{digits, plain, value}
+use Rattle.figures.specs.Written.{fixed, width, decimal}
 use Rattle.figures.proofs.Laws.Digits.{thousand, and-both, ten-pos, digit-is, value-lt, value-inj}
 use Rattle.figures.proofs.Laws.Plain.{plain-digits, plain-least, plain-other}
 
@@ -110,33 +111,33 @@ width-is k n w l h f g =
     omega (arith, narrower n w (width k n) f l (width-first k n), narrower n (width k n) w (width-holds k n m) (width-least k n) g)
 
 -- the number text of n is as long as n is wide
-pub text-fixed : (n : ℕ) → text n ≡ fixed (length (text n)) n
-unfolding text
+pub text-fixed : (n : ℕ) → decimal n ≡ fixed (length (decimal n)) n
+unfolding decimal
 text-fixed n = ap (λ (w : ℕ). fixed w n) (sym (fixed-length (width 101 n) n))
 
-pub text-size-is : (n w : ℕ) → 1 ≤ w → w ≤ 102 → n < 10 ^ w → (1 < w → 10 ^ (w - 1) ≤ n) → w ≡ length (text n)
-unfolding text
+pub text-size-is : (n w : ℕ) → 1 ≤ w → w ≤ 102 → n < 10 ^ w → (1 < w → 10 ^ (w - 1) ≤ n) → w ≡ length (decimal n)
+unfolding decimal
 text-size-is n w l m h f = sym (fixed-length (width 101 n) n ∙ width-is 101 n w l m h f)
 
-pub text-size-le : (n m : ℕ) → 1 ≤ m → n < 10 ^ m → length (text n) ≤ m
-unfolding text
+pub text-size-le : (n m : ℕ) → 1 ≤ m → n < 10 ^ m → length (decimal n) ≤ m
+unfolding decimal
 text-size-le n m l h = rw fixed-length (narrower n m (width 101 n) h l (width-first 101 n))
 
-pub text-some : (n : ℕ) → 0 < length (text n)
-unfolding text
+pub text-some : (n : ℕ) → 0 < length (decimal n)
+unfolding decimal
 text-some n = rw fixed-length (width-least 101 n)
 
-pub text-small : (n : ℕ) → length (text n) ≤ 102
-unfolding text
+pub text-small : (n : ℕ) → length (decimal n) ≤ 102
+unfolding decimal
 text-small n = rw fixed-length (width-most 101 n)
 
 -- with o groups below the highest it has three digits more for each
-pub text-above : (n o : ℕ) → o < 34 → n / 1000 ^ o < 1000 → (0 < o → 1000 ^ o ≤ n) → o * 3 + length (text (n / 1000 ^ o)) ≡ length (text n)
-unfolding text
+pub text-above : (n o : ℕ) → o < 34 → n / 1000 ^ o < 1000 → (0 < o → 1000 ^ o ≤ n) → o * 3 + length (decimal (n / 1000 ^ o)) ≡ length (decimal n)
+unfolding decimal
 text-above n o s h f =
     let x : ℕ = n / 1000 ^ o in
     let k : ℕ = width 101 x in
-    let l : length (text x) ≡ k = fixed-length k x in
+    let l : length (decimal x) ≡ k = fixed-length k x in
     let least : 1 ≤ k = width-least 101 x in
     let most : k ≤ 3 = narrower x 3 k h (omega arith) (width-first 101 x) in
     let c : 0 < 1000 ^ o = one-le-pow o 1000 (omega arith) in
@@ -161,8 +162,8 @@ width-plain k (b ∷ bs) p h =
     (value-lt (b ∷ bs) (plain-digits (b ∷ bs) p))
     (λ q. rw sub-one (plain-least b bs p q))
 
-pub text-value : (xs : List ℕ) → plain xs ≡ true → length xs ≤ 102 → text (value xs) ≡ xs
-unfolding text
+pub text-value : (xs : List ℕ) → plain xs ≡ true → length xs ≤ 102 → decimal (value xs) ≡ xs
+unfolding decimal
 text-value xs p h = rw (width-plain 101 xs p h) (fixed-value xs (plain-digits xs p))
 
 -- digits of a number whose first is above 0, or of which there is one, are plain
@@ -185,10 +186,10 @@ plain-fixed (suc (suc k)) n l h f =
 
 -- the number text of n is plain, and its value is n
 module _ (n : ℕ) (h : n < 10 ^ 102) where
-  pub value-text : value (text n) ≡ n
-  unfolding text
+  pub value-text : value (decimal n) ≡ n
+  unfolding decimal
   value-text = value-fixed (width 101 n) n ∙ mod-eq-of-lt (width-holds 101 n h)
 
-  pub plain-text : plain (text n) ≡ true
-  unfolding text
+  pub plain-text : plain (decimal n) ≡ true
+  unfolding decimal
   plain-text = plain-fixed (width 101 n) n (width-least 101 n) (width-holds 101 n h) (width-first 101 n)

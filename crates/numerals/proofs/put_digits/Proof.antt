@@ -7,7 +7,7 @@ use mathlib.Core.Path.{_≡_, sym, ap, _∙_}
 use lib.ListN.{length-set}
 use borrow.Author.Needs.{needs}
 use Rattle.base.specs.Buffer.{over}
-use Rattle.figures.specs.Text.{fixed}
+use Rattle.figures.specs.Written.{fixed}
 use Rattle.figures.proofs.Laws.Buffer.{put-all}
 use Rattle.numerals.proofs.Write.{one-digit, two-digits, three-digits}
 use Rattle.numerals.proofs.put_digits.Statement.{statement}

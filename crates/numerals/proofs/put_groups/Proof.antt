@@ -10,7 +10,7 @@ use borrow.Author.Needs.{needs}
 use borrow.Rule.Slice.PartMut.{same-len-mid}
 use Rattle.base.specs.Buffer.{over}
 use Rattle.figures.specs.Groups.{total}
-use Rattle.figures.specs.Text.{fixed}
+use Rattle.figures.specs.Written.{fixed}
 use Rattle.figures.proofs.Laws.Buffer.{wrote}
 use Rattle.figures.proofs.Laws.Groups.{group-of, group-lt}
 use Rattle.figures.proofs.Laws.Text.{fixed-length}

@@ -4,7 +4,7 @@ use native.Mathlib.Omega.{arith}
 use mathlib.Core.Path.{refl}
 use borrow.Author.Needs.{needs}
 use Rattle.figures.specs.Groups.{total}
-use Rattle.figures.specs.Text.{signedText}
+use Rattle.figures.specs.Written.{signedDecimal}
 use Rattle.figures.proofs.Laws.Buffer.{answer-yes, answer-no}
 use Rattle.numerals.proofs.put_number.Statement.{statement}
 use Rattle.numerals.proofs.put_number.Tie as tie
@@ -13,13 +13,13 @@ returns : tie.Need-returns
 returns c =
     let b = c .before in
     let a = b .before .before .before .args in
-    answer-no _ (a .out .now) (a .out .now) (signedText (a .minus) (total (a .g .now))) (b .number-size .ensures .0) refl (omega arith) refl
+    answer-no _ (a .out .now) (a .out .now) (signedDecimal (a .minus) (total (a .g .now))) (b .number-size .ensures .0) refl (omega arith) refl
 
 returns-2 : tie.Need-returns-2
 returns-2 c =
     let b = c .before .before .before .before .before in
     let a = b .before .before .before .args in
-    answer-yes _ (a .out .now) _ (signedText (a .minus) (total (a .g .now))) (b .number-size .ensures .0) refl (omega arith) (c .before .before .put-signed .ensures)
+    answer-yes _ (a .out .now) _ (signedDecimal (a .minus) (total (a .g .now))) (b .number-size .ensures .0) refl (omega arith) (c .before .before .put-signed .ensures)
 
 pub put-number-spec : {M : Type 1} → statement M
 put-number-spec =

@@ -9,7 +9,7 @@ use borrow.Author.Needs.{needs}
 use borrow.Rule.Slice.PartMut.{same-len-mid}
 use Rattle.base.specs.Buffer.{over}
 use Rattle.figures.specs.Groups.{total}
-use Rattle.figures.specs.Text.{text}
+use Rattle.figures.specs.Written.{decimal}
 use Rattle.figures.proofs.Laws.Buffer.{put-all, wrote}
 use Rattle.figures.proofs.Laws.Sign.{sign-yes, sign-no}
 use Rattle.numerals.proofs.put_signed.Statement.{statement}
@@ -17,7 +17,7 @@ use Rattle.numerals.proofs.put_signed.Tie as tie
 
 -- with '-', w is one more than the length of the text
 module _ (c : tie.Then1) where
-  minus : c .before .before .before .args .w ≡ suc (length (text (total (c .before .before .before .args .g .now))))
+  minus : c .before .before .before .args .w ≡ suc (length (decimal (total (c .before .before .before .args .g .now))))
   minus =
       let s = c .before .before .before in
       s .pre .1 .1 .0 ∙ ap length (sign-yes (s .args .minus) (total (s .args .g .now)) (c .if1 .taken))
@@ -50,7 +50,7 @@ returns c =
     let xs = s .args .out .now in
     let n : ℕ = total (s .args .g .now) in
     let p = c .before .before .put-text in
-    wrote 1 xs (45 ∷ []) (text n) (set xs 0 45) (p .last .1 .0) refl (put-all xs (45 ∷ []) (room b)) (p .ensures) ∙
+    wrote 1 xs (45 ∷ []) (decimal n) (set xs 0 45) (p .last .1 .0) refl (put-all xs (45 ∷ []) (room b)) (p .ensures) ∙
     sym (ap (over xs) (sign-yes (s .args .minus) n (b .if1 .taken)))
 
 returns-2 : tie.Need-returns-2

@@ -8,7 +8,7 @@ use lib.ListN.{length, getD, length-take, length-drop}
 use borrow.Author.Needs.{needs}
 use Rattle.base.specs.Buffer.{over}
 use Rattle.figures.specs.Groups.{total}
-use Rattle.figures.specs.Text.{fixed, text}
+use Rattle.figures.specs.Written.{fixed, decimal}
 use Rattle.figures.proofs.Laws.Buffer.{wrote}
 use Rattle.figures.proofs.Laws.Groups.{group-of, group-lt, total-size}
 use Rattle.figures.proofs.Laws.Text.{fixed-length, text-some, text-fixed}
@@ -20,7 +20,7 @@ use Rattle.numerals.proofs.put_text.Tie as tie
 highest : (c : tie.Start) → (0 < c .args .w) × ((c .args .w - 1) / 3 < length (c .args .g .now))
 highest c =
     let n : ℕ = total (c .args .g .now) in
-    let m : length (text n) ≤ length (c .args .g .now) * 3 = total-size (c .args .g .now) (c .pre .0) (omega arith) in
+    let m : length (decimal n) ≤ length (c .args .g .now) * 3 = total-size (c .args .g .now) (c .pre .0) (omega arith) in
     (omega (arith, c .pre .1 .1, text-some n), omega (arith, c .pre .1 .1, m))
 
 put-digits-requires : tie.Need-put-digits-requires
@@ -46,8 +46,8 @@ returns c =
     let i : ℕ = w - o * 3 in
     let h = highest s in
     let x : getD gs o 0 ≡ n / 1000 ^ o % 1000 = group-of gs o (s .pre .0) (h .1) in
-    let e : i + o * 3 ≡ length (text n) = omega (arith, h .0, s .pre .1 .1) in
-    let t : fixed i (getD gs o 0) ++ fixed (o * 3) n ≡ text n =
+    let e : i + o * 3 ≡ length (decimal n) = omega (arith, h .0, s .pre .1 .1) in
+    let t : fixed i (getD gs o 0) ++ fixed (o * 3) n ≡ decimal n =
     rw x (fixed-high i o n (omega (arith, h .0))) ∙ ap (λ (k : ℕ). fixed k n) e ∙ sym (text-fixed n) in
     wrote i (s .args .out .now) (fixed i (getD gs o 0)) (fixed (o * 3) n) (d .last .1 .1 .0) (c .before .before .put-groups .last .1 .1 .0) (sym (fixed-length i (getD gs o 0)))
     (d .ensures) (c .before .before .put-groups .ensures) ∙

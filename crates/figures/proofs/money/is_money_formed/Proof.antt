@@ -3,7 +3,7 @@
 use mathlib.Core.Path.{sym, ap, _∙_}
 use lib.ListN.{length}
 use borrow.Author.Needs.{needs}
-use Rattle.figures.specs.Money.{hundredths}
+use Rattle.figures.specs.Money.{areHundredths}
 use Rattle.figures.specs.Text.{plain, unsigned}
 use Rattle.figures.proofs.Laws.Money.{hundredths-size, money-pointed, money-bad, money-plain}
 use Rattle.figures.proofs.money.is_money_formed.Statement.{statement}
@@ -19,7 +19,7 @@ returns : tie.Need-returns
 returns c =
     let b = c .before .before .before in
     c .is-hundredths .ensures ∙
-    ap hundredths (c .before .hundredths-part .ensures) ∙
+    ap areHundredths (c .before .hundredths-part .ensures) ∙
     sym (money-pointed (b .before .before .before .before .before .before .args .s .now)
     (sym (b .before .before .before .before .is-pointed .ensures) ∙ b .before .before .before .if1 .taken)
     (sym (b .is-plain .ensures ∙ ap plain (b .before .after-sign .ensures ∙ ap unsigned (b .before .before .whole-part .ensures))) ∙ c .before .before .if2 .taken))

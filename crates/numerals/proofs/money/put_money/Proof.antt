@@ -8,7 +8,7 @@ use lib.ListN.{length, length-take, length-drop}
 use borrow.Author.Needs.{needs}
 use Rattle.base.specs.Buffer.{over}
 use Rattle.figures.specs.Groups.{total}
-use Rattle.figures.specs.Text.{text, fixed}
+use Rattle.figures.specs.Written.{decimal, fixed}
 use Rattle.figures.proofs.Laws.Buffer.{wrote}
 use Rattle.figures.proofs.Laws.Money.{money-some, money-none, size-some, size-none}
 use Rattle.numerals.proofs.money.put_money.Statement.{statement}
@@ -22,7 +22,7 @@ put-text-requires c κs =
 
 -- with hundredths, w is three more than the length of the whole part
 module _ (c : tie.Else1) where
-  whole : c .before .before .before .args .w ≡ length (text (total (c .before .before .before .args .g .now))) + 3
+  whole : c .before .before .before .args .w ≡ length (decimal (total (c .before .before .before .args .g .now))) + 3
   whole =
       let s = c .before .before .before in
       s .pre .1 .1 .0 .0 ∙ size-some (total (s .args .g .now)) (s .args .h) (c .if1 .left)
@@ -51,7 +51,7 @@ returns-2 c =
     let s = e .before .before .before in
     let p = c .before .before .put-hundredths in
     let n : ℕ = total (s .args .g .now) in
-    wrote (s .args .w - 3) (s .args .out .now) (text n) (46 ∷ fixed 2 (s .args .h)) (t .last .1 .0) (p .last .1 .0) (omega (arith, whole e)) (t .ensures) (p .ensures) ∙
+    wrote (s .args .w - 3) (s .args .out .now) (decimal n) (46 ∷ fixed 2 (s .args .h)) (t .last .1 .0) (p .last .1 .0) (omega (arith, whole e)) (t .ensures) (p .ensures) ∙
     sym (ap (over (s .args .out .now)) (money-some n (s .args .h) (e .if1 .left)))
 
 pub put-money-spec : {M : Type 1} → statement M

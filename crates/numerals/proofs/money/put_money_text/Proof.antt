@@ -4,7 +4,7 @@ use native.Mathlib.Omega.{arith}
 use mathlib.Core.Path.{refl}
 use borrow.Author.Needs.{needs}
 use Rattle.figures.specs.Groups.{total}
-use Rattle.figures.specs.Money.{moneyText}
+use Rattle.figures.specs.Written.{moneyDecimal}
 use Rattle.figures.proofs.Laws.Buffer.{answer-yes, answer-no}
 use Rattle.numerals.proofs.money.put_money_text.Statement.{statement}
 use Rattle.numerals.proofs.money.put_money_text.Tie as tie
@@ -13,13 +13,13 @@ returns : tie.Need-returns
 returns c =
     let b = c .before in
     let a = b .before .before .before .args in
-    answer-no _ (a .out .now) (a .out .now) (moneyText (total (a .g .now)) (a .h)) (b .money-size .ensures) refl (omega arith) refl
+    answer-no _ (a .out .now) (a .out .now) (moneyDecimal (total (a .g .now)) (a .h)) (b .money-size .ensures) refl (omega arith) refl
 
 returns-2 : tie.Need-returns-2
 returns-2 c =
     let b = c .before .before .before .before .before in
     let a = b .before .before .before .args in
-    answer-yes _ (a .out .now) _ (moneyText (total (a .g .now)) (a .h)) (b .money-size .ensures) refl (omega arith) (c .before .before .put-money .ensures)
+    answer-yes _ (a .out .now) _ (moneyDecimal (total (a .g .now)) (a .h)) (b .money-size .ensures) refl (omega arith) (c .before .before .put-money .ensures)
 
 pub put-money-text-spec : {M : Type 1} → statement M
 put-money-text-spec =

@@ -1,0 +1,3 @@
+pub mod Cardinal
+pub mod Grammar
+pub mod Listed

@@ -1,0 +1,103 @@
+// The settings of a call, of both languages, in one record that goes by value: small numbers, so that a copy costs little.
+ghost use mathlib.Core.Path.{_≡_};
+ghost use mathlib.Core.Bool.{true};
+ghost use Prim.Native.Nat.{_<_};
+ghost use Rattle.settings.specs.Settings.{ukrainianSettings, frenchSettings, ukrainianRanges, frenchRanges, within, inGender, inForm};
+
+// 01's numbers of a call's settings. A language leaves the fields that it does not have at 0.
+pub struct Settings {
+    pub gender: u8,
+    pub number: u8,
+    pub case: u8,
+    pub reformed: u8,
+    pub region: u8,
+}
+
+// The numbers of these genders, grammatical numbers and cases.
+pub const MASCULINE: u8 = 0;
+
+pub const FEMININE: u8 = 1;
+
+pub const SINGULAR: u8 = 0;
+
+pub const PLURAL: u8 = 1;
+
+pub const NOMINATIVE: u8 = 0;
+
+pub const GENITIVE: u8 = 1;
+
+// Whether the numbers of a Ukrainian call are in their ranges.
+pub fn is_ukrainian(gender: u32, number: u32, case: u32) -> bool
+    ensures { λ r. ⌜ r ≡ within (ukrainianRanges (ukrainianSettings gender number case)) ⌝ }
+{
+    if gender < 3 {
+        if number < 2 { case < 6 } else { false }
+    } else {
+        false
+    }
+}
+
+// Their record.
+pub fn ukrainian(gender: u32, number: u32, case: u32) -> Settings
+    requires { ⌜ within (ukrainianRanges (ukrainianSettings gender number case)) ≡ true ⌝ }
+    ensures { λ r. ⌜ r ≡ ukrainianSettings gender number case ⌝ }
+{
+    Settings {
+        gender: gender as u8,
+        number: number as u8,
+        case: case as u8,
+        reformed: 0,
+        region: 0,
+    }
+}
+
+// Whether the numbers of a French call are in their ranges.
+pub fn is_french(feminine: u32, reformed: u32, region: u32) -> bool
+    ensures { λ r. ⌜ r ≡ within (frenchRanges (frenchSettings feminine reformed region)) ⌝ }
+{
+    if feminine < 2 {
+        if reformed < 2 { region < 3 } else { false }
+    } else {
+        false
+    }
+}
+
+// Their record.
+pub fn french(feminine: u32, reformed: u32, region: u32) -> Settings
+    requires { ⌜ within (frenchRanges (frenchSettings feminine reformed region)) ≡ true ⌝ }
+    ensures { λ r. ⌜ r ≡ frenchSettings feminine reformed region ⌝ }
+{
+    Settings {
+        gender: feminine as u8,
+        number: SINGULAR,
+        case: NOMINATIVE,
+        reformed: reformed as u8,
+        region: region as u8,
+    }
+}
+
+// These settings in another gender.
+pub fn in_gender(gender: u8, settings: Settings) -> Settings
+    ensures { λ r. ⌜ r ≡ inGender gender settings ⌝ }
+{
+    Settings {
+        gender,
+        number: settings.number,
+        case: settings.case,
+        reformed: settings.reformed,
+        region: settings.region,
+    }
+}
+
+// These settings in another grammatical number and case.
+pub fn in_form(number: u8, case: u8, settings: Settings) -> Settings
+    ensures { λ r. ⌜ r ≡ inForm number case settings ⌝ }
+{
+    Settings {
+        gender: settings.gender,
+        number,
+        case,
+        reformed: settings.reformed,
+        region: settings.region,
+    }
+}
