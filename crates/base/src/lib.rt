@@ -11,6 +11,15 @@ pub struct Answer {
     pub length: usize,
 }
 
+// The numbers of 01's table.
+pub const WRONG_SETTING: u32 = 1;
+
+pub const WRONG_CODE: u32 = 2;
+
+pub const NO_SENTENCE: u32 = 6;
+
+pub const NO_ROOM: u32 = 7;
+
 // The answer of a refusal that reports no length.
 pub fn refused(number: u32) -> Answer
     ensures { λ r. ⌜ (r .number ≡ number) × (r .length ≡ 0) ⌝ }

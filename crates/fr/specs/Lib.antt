@@ -1,7 +1,5 @@
-pub mod Settings
 pub mod FrTables
 pub mod Rules
-pub mod Cardinal
 pub mod Ordinal
 pub mod Grammar
 pub mod Pool

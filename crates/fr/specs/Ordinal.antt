@@ -1,23 +1,19 @@
--- What the speller says of an ordinal (01, "French"): 1 is `premier`; else the cardinal, a final `e` dropped, then `ième`.
+-- What the speller says of a French ordinal (01, "French": "Ordinal").
 -- Assumes nothing.
 use Prim.Native.Nat.{ℕ}
-use mathlib.Core.Bool.{Bool, false, cond}
-use mathlib.Core.List.{List, [], _∷_, _++_}
+use mathlib.Core.Bool.{false, cond}
+use mathlib.Core.List.{List, [], _∷_}
 use lib.Dec.{eqb}
 use Rattle.base.specs.Utf8.{utf8}
-use Rattle.fr.specs.Cardinal.{cardinalPhrase}
-use Rattle.fr.specs.declared.French.{French}
+use Rattle.base.specs.Join.{Word, joinedBy}
+use Rattle.settings.specs.declared.Settings.{Settings}
+use Rattle.cardinals.specs.Cardinal.{cardinalWords}
+use Rattle.fr.specs.Rules.{frenchJoiner, nthWords, french}
 
--- a text without a final `e`
-unfoldable pub withoutE : List ℕ → List ℕ
-withoutE [] = []
-withoutE (b ∷ []) = cond (eqb b 101) [] (b ∷ [])
-withoutE (b ∷ c ∷ s) = b ∷ withoutE (c ∷ s)
+-- "1 is `premier`; else the cardinal", with the last word's ending
+unfoldable pub nthOf : Settings → ℕ → List Word
+nthOf S n = cond (eqb n 1) (utf8 "premier" ∷ []) (nthWords (cardinalWords (french S) false n))
 
--- the ordinal's phrase from the cardinal's: a final `e` dropped, then `ième`
-unfoldable pub nth : List ℕ → List ℕ
-nth s = withoutE s ++ utf8 "ième"
-
--- the ordinal of the number with these groups, of which is said whether it is 0 and whether it is 1: 1 is `premier`
-unfoldable pub ordinalPhrase : French → Bool → Bool → List ℕ → List ℕ
-ordinalPhrase F isZero isOne gs = cond isOne (utf8 "premier") (nth (cardinalPhrase F isZero false gs))
+-- the phrase
+unfoldable pub nthPhrase : Settings → ℕ → List ℕ
+nthPhrase S n = joinedBy (frenchJoiner S) (nthOf S n)

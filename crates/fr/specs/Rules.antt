@@ -1,34 +1,32 @@
 -- The words of a French group, rule by rule as document 01 has them ("French"). A word may have a hyphen or ` et ` in it, as in fr.rs.
 -- Orders count groups from 0; g is a group, h, t and u are its hundreds, tens and units digits.
 -- Assumes nothing.
-use Prim.Native.Nat.{ℕ, zero, suc, _-_, _/_, _%_, _<_}
+use Prim.Native.Nat.{ℕ, zero, suc, _-_, _/_, _%_}
 use mathlib.Core.Bool.{Bool, true, false, cond, not, _&&_, _||_}
 use mathlib.Core.List.{List, [], _∷_, _++_}
 use lib.Dec.{eqb}
 use Rattle.base.specs.Utf8.{utf8, form1}
-use Rattle.base.specs.Join.{Word}
+use Rattle.base.specs.Join.{Word, space, hyphen}
+use Rattle.settings.specs.Settings.{feminine}
+use Rattle.settings.specs.declared.Settings.{Settings}
+use Rattle.cardinals.specs.Cardinal.{Lexicon}
 use Rattle.fr.specs.FrTables.{units, tens, teens, megas}
-use Rattle.fr.specs.declared.French.{French}
 
--- feminine is 1; the settings are "feminine 0 or 1, reformed 0 or 1, region 0 FR, 1 BE, 2 CH" ("From the repository, and added")
-abbrev pub isFeminine : French → Bool
-isFeminine F = eqb (F .feminine) 1
+-- the feminine is spoken
+abbrev pub isFeminine : Settings → Bool
+isFeminine S = eqb (S .gender) feminine
 
--- reformed is 1
-abbrev pub isReformed : French → Bool
-isReformed F = eqb (F .reformed) 1
+-- "reformed 0 or 1"
+abbrev pub isReformed : Settings → Bool
+isReformed S = eqb (S .reformed) 1
 
--- the region is FR
-abbrev pub inFR : French → Bool
-inFR F = eqb (F .region) 0
+-- "region 0 FR, 1 BE, 2 CH": it is FR
+abbrev pub inFR : Settings → Bool
+inFR S = eqb (S .region) 0
 
--- the region is CH
-abbrev pub inCH : French → Bool
-inCH F = eqb (F .region) 2
-
--- each setting is in its range
-abbrev pub InRange : French → Type 0
-InRange F = (F .feminine < 2) × (F .reformed < 2) × (F .region < 3)
+-- it is CH
+abbrev pub inCH : Settings → Bool
+inCH S = eqb (S .region) 2
 
 -- the order is 0
 abbrev pub isLowest : ℕ → Bool
@@ -41,19 +39,9 @@ isMille zero = false
 isMille (suc zero) = true
 isMille (suc (suc k)) = false
 
--- the byte between words: a space, or `-` if reformed
-abbrev pub joiner : French → ℕ
-joiner F = cond (isReformed F) 45 32
-
--- words after others, each with the joiner j before it
-abbrev pub spacedBy : ℕ → List Word → List ℕ
-spacedBy j [] = []
-spacedBy j (w ∷ ws) = j ∷ (w ++ spacedBy j ws)
-
--- all words joined by j
-abbrev pub joinedBy : ℕ → List Word → List ℕ
-joinedBy j [] = []
-joinedBy j (w ∷ ws) = w ++ spacedBy j ws
+-- the byte between words: "a space, or `-` if reformed"
+abbrev pub frenchJoiner : Settings → ℕ
+frenchJoiner S = cond (isReformed S) hyphen space
 
 -- `cents` if nothing follows in the group and the order isn't 1, else `cent`; below is the group without its hundreds
 unfoldable pub centWord : ℕ → ℕ → Word
@@ -66,61 +54,95 @@ hundredWords order (suc zero) below = utf8 "cent" ∷ []
 hundredWords order (suc (suc h)) below = form1 units (suc h) ∷ centWord order below ∷ []
 
 -- tens 7 and 9 in FR: the tens word below and a teen
-abbrev pub countsOn : French → ℕ → Bool
-countsOn F t = inFR F && (eqb t 7 || eqb t 9)
+abbrev pub countsOn : Settings → ℕ → Bool
+countsOn S t = inFR S && (eqb t 7 || eqb t 9)
 
 -- the tens word: BE and CH have `septante`, `nonante`; CH has `huitante`
-unfoldable pub tenWord : French → ℕ → Word
-tenWord F t =
-    cond (eqb t 7 && not (inFR F)) (utf8 "septante")
-    (cond (eqb t 8 && inCH F) (utf8 "huitante") (cond (eqb t 9 && not (inFR F)) (utf8 "nonante") (form1 tens (t - 1))))
+unfoldable pub tenWord : Settings → ℕ → Word
+tenWord S t =
+    cond (eqb t 7 && not (inFR S)) (utf8 "septante")
+    (cond (eqb t 8 && inCH S) (utf8 "huitante") (cond (eqb t 9 && not (inFR S)) (utf8 "nonante") (form1 tens (t - 1))))
 
 -- tens 8 outside CH is `quatre-vingt`
-abbrev pub fourTwenties : French → ℕ → Bool
-fourTwenties F t = eqb t 8 && not (inCH F)
+abbrev pub fourTwenties : Settings → ℕ → Bool
+fourTwenties S t = eqb t 8 && not (inCH S)
 
 -- the tens word where units is 0: with tens 8 outside CH `quatre-vingts`, but `quatre-vingt` at order 1
-unfoldable pub roundWord : French → ℕ → ℕ → Word
-roundWord F order t = cond (fourTwenties F t && not (isMille order)) (utf8 "quatre-vingts") (tenWord F t)
+unfoldable pub roundWord : Settings → ℕ → ℕ → Word
+roundWord S order t = cond (fourTwenties S t && not (isMille order)) (utf8 "quatre-vingts") (tenWord S t)
 
 -- whether `et` stands between a tens word and a unit or teen: if the units digit is 1, but not after 80 (outside CH) and 90 in FR
-abbrev pub takesEt : French → ℕ → ℕ → Bool
-takesEt F t u = eqb u 1 && not (fourTwenties F t || (eqb t 9 && inFR F))
+abbrev pub takesEt : Settings → ℕ → ℕ → Bool
+takesEt S t u = eqb u 1 && not (fourTwenties S t || (eqb t 9 && inFR S))
 
 -- from a tens word to a unit or teen: ` et ` (reformed `-et-`), otherwise a hyphen
-unfoldable pub link : French → ℕ → ℕ → Word
-link F t u = cond (takesEt F t u) (cond (isReformed F) (utf8 "-et-") (utf8 " et ")) (utf8 "-")
+unfoldable pub link : Settings → ℕ → ℕ → Word
+link S t u = cond (takesEt S t u) (cond (isReformed S) (utf8 "-et-") (utf8 " et ")) (utf8 "-")
 
 -- feminine `une` only for unit 1 at order 0, never in a teen
-abbrev pub isUne : French → ℕ → ℕ → Bool
-isUne F order u = isLowest order && (isFeminine F && eqb u 1)
+abbrev pub isUne : Settings → ℕ → ℕ → Bool
+isUne S order u = isLowest order && (isFeminine S && eqb u 1)
 
 -- the unit's word
-unfoldable pub unitWord : French → ℕ → ℕ → Word
-unitWord F order u = cond (isUne F order u) (utf8 "une") (form1 units (u - 1))
+unfoldable pub unitWord : Settings → ℕ → ℕ → Word
+unitWord S order u = cond (isUne S order u) (utf8 "une") (form1 units (u - 1))
 
 -- a tens word with a unit, or in FR the tens word below with a teen; in fr.rs this is one word, and so it is not joined like others
-unfoldable pub pairWord : French → ℕ → ℕ → ℕ → Word
-pairWord F order t u =
-    cond (countsOn F t) (tenWord F (t - 1) ++ (link F t u ++ form1 teens u)) (tenWord F t ++ (link F t u ++ unitWord F order u))
+unfoldable pub pairWord : Settings → ℕ → ℕ → ℕ → Word
+pairWord S order t u =
+    cond (countsOn S t) (tenWord S (t - 1) ++ (link S t u ++ form1 teens u)) (tenWord S t ++ (link S t u ++ unitWord S order u))
 
 -- what the tens and units digits write; tens 1: `TEENS`
-unfoldable pub lowWords : French → ℕ → ℕ → ℕ → List Word
-lowWords F order zero zero = []
-lowWords F order zero (suc u) = unitWord F order (suc u) ∷ []
-lowWords F order (suc zero) u = form1 teens u ∷ []
-lowWords F order (suc (suc t)) zero = roundWord F order (suc (suc t)) ∷ []
-lowWords F order (suc (suc t)) (suc u) = pairWord F order (suc (suc t)) (suc u) ∷ []
+unfoldable pub tensWords : Settings → ℕ → ℕ → ℕ → List Word
+tensWords S order zero zero = []
+tensWords S order zero (suc u) = unitWord S order (suc u) ∷ []
+tensWords S order (suc zero) u = form1 teens u ∷ []
+tensWords S order (suc (suc t)) zero = roundWord S order (suc (suc t)) ∷ []
+tensWords S order (suc (suc t)) (suc u) = pairWord S order (suc (suc t)) (suc u) ∷ []
 
 -- a group's words before its scale word
-abbrev pub numberWords : French → ℕ → ℕ → List Word
-numberWords F order g = hundredWords order (g / 100 % 10) (g % 100) ++ lowWords F order (g / 10 % 10) (g % 10)
+abbrev pub numberWords : Settings → ℕ → ℕ → List Word
+numberWords S order g = hundredWords order (g / 100 % 10) (g % 100) ++ tensWords S order (g / 10 % 10) (g % 10)
 
--- scale word from `MEGAS`, with `s` unless order 1 or the group is 1; order 0 has none
+-- the name of an order above 0: "Scale word from `MEGAS`"
+unfoldable pub megaName : ℕ → Word
+megaName order = form1 megas (order - 1)
+
+-- the scale word of a group g, "with `s` unless order 1 or the group is 1"
+unfoldable pub scaleWord : ℕ → ℕ → Word
+scaleWord order g = megaName order ++ cond (isMille order || eqb g 1) [] (utf8 "s")
+
+-- order 0 has none
 unfoldable pub scaleWords : ℕ → ℕ → List Word
 scaleWords zero g = []
-scaleWords (suc k) g = (form1 megas k ++ cond (isMille (suc k) || eqb g 1) [] (utf8 "s")) ∷ []
+scaleWords (suc k) g = scaleWord (suc k) g ∷ []
 
--- a group's words; one of exactly 1 at order 1 writes no unit
-unfoldable pub groupWords : French → ℕ → ℕ → List Word
-groupWords F order g = cond (isMille order && eqb g 1) [] (numberWords F order g) ++ scaleWords order g
+-- a group's words; "A group of exactly 1 at order 1 writes no unit"
+unfoldable pub frenchGroup : Settings → ℕ → ℕ → List Word
+frenchGroup S order g = cond (isMille order && eqb g 1) [] (numberWords S order g) ++ scaleWords order g
+
+-- "Ordinal: .. a final `e` dropped": a text without it
+unfoldable pub withoutE : List ℕ → List ℕ
+withoutE [] = []
+withoutE (b ∷ []) = cond (eqb b 101) [] (b ∷ [])
+withoutE (b ∷ c ∷ s) = b ∷ withoutE (c ∷ s)
+
+-- "then `ième`": the ordinal's last word from the cardinal's
+unfoldable pub nth : Word → Word
+nth w = withoutE w ++ utf8 "ième"
+
+-- words with the last of them made an ordinal's
+unfoldable pub nthWords : List Word → List Word
+nthWords [] = []
+nthWords (w ∷ []) = nth w ∷ []
+nthWords (w ∷ v ∷ ws) = w ∷ nthWords (v ∷ ws)
+
+-- what French has for its cardinals: 34 orders ("Number texts"), the joiner, "Zero is `zéro`; negative begins `moins`"
+unfoldable pub french : Settings → Lexicon
+french S = record {
+  orders = 34;
+  joiner = frenchJoiner S;
+  zeroWord = utf8 "zéro";
+  minusWord = utf8 "moins";
+  groupWords = λ order g. frenchGroup S order g;
+}

@@ -3,30 +3,32 @@ mod places; // places.rt: the tables of words, with the place of each
 mod pool; // pool.rt: the texts
 
 use base::Answer;
+use settings::FEMININE;
+use settings::Settings;
 ghost use mathlib.Core.Path.{_≡_};
-ghost use mathlib.Core.Bool.{false, cond, not, _&&_, _||_};
-ghost use mathlib.Core.List.{[], _∷_, _++_};
+ghost use mathlib.Core.Bool.{false, not, _&&_};
+ghost use mathlib.Core.List.{_∷_, _++_};
 ghost use Prim.Native.Nat.{_-_, _*_, _≤_, _<_};
 ghost use lib.Dec.{eqb};
 ghost use lib.ListN.{length};
 ghost use Rattle.base.specs.Utf8.{utf8, form1};
 ghost use Rattle.base.specs.Answer.{fitted, Answers};
 ghost use Rattle.base.specs.Decides.{Decides};
+ghost use Rattle.settings.specs.Settings.{frenchRanges, Within};
 ghost use Rattle.words.specs.Part.{part};
 ghost use Rattle.plan.specs.Phrase.{phrase};
 ghost use Rattle.plan.specs.Plan.{pieces, says};
 ghost use Rattle.fr.specs.Pool.{frPool};
-ghost use Rattle.fr.specs.FrTables.{units, teens, megas};
-ghost use Rattle.fr.specs.Rules.{isMille, joiner as joinerOf, centWord, countsOn, fourTwenties, takesEt, isUne, unitWord, tenWord, roundWord};
-ghost use Rattle.fr.specs.Ordinal.{withoutE};
+ghost use Rattle.fr.specs.FrTables.{units, teens};
+ghost use Rattle.fr.specs.Rules.{isMille, frenchJoiner, centWord, countsOn, fourTwenties, takesEt, isUne, unitWord, tenWord, roundWord, scaleWord, withoutE};
 ghost use Rattle.fr.specs.Placed.{Known, Placed, Plural};
 
-// The settings: feminine 0 or 1, reformed 0 or 1, region 0 FR, 1 BE, 2 CH.
-pub struct French {
-    pub feminine: u32,
-    pub reformed: u32,
-    pub region: u32,
-}
+// The numbers of these settings.
+const REFORMED: u8 = 1;
+
+const FR: u8 = 0;
+
+const CH: u8 = 2;
 
 // The places of the words that stand in no table.
 pub const ZERO: u16 = places::ZERO;
@@ -67,28 +69,28 @@ pub fn stands(plan: &[u32], s: &[u8]) -> bool
 }
 
 // The byte that joins words.
-pub fn joiner(f: French) -> u8
-    ensures { λ r. ⌜ r ≡ joinerOf f ⌝ }
+pub fn joiner(settings: Settings) -> u8
+    ensures { λ r. ⌜ r ≡ frenchJoiner settings ⌝ }
 {
-    if f.reformed == 1 { b'-' } else { b' ' }
+    if settings.reformed == REFORMED { b'-' } else { b' ' }
 }
 
 // Whether a unit at this order is `une`.
-pub fn is_une(f: French, order: usize, u: usize) -> bool
-    ensures { λ r. ⌜ r ≡ isUne f order u ⌝ }
+pub fn is_une(settings: Settings, order: usize, u: usize) -> bool
+    ensures { λ r. ⌜ r ≡ isUne settings order u ⌝ }
 {
     if u == 1 {
-        if order == 0 { f.feminine == 1 } else { false }
+        if order == 0 { settings.gender == FEMININE } else { false }
     } else {
         false
     }
 }
 
 // Whether the tens digit t is written by the tens word below and a teen.
-pub fn counts_on(f: French, t: usize) -> bool
-    ensures { λ r. ⌜ r ≡ countsOn f t ⌝ }
+pub fn counts_on(settings: Settings, t: usize) -> bool
+    ensures { λ r. ⌜ r ≡ countsOn settings t ⌝ }
 {
-    if f.region == 0 {
+    if settings.region == FR {
         if t == 7 { true } else { t == 9 }
     } else {
         false
@@ -96,32 +98,32 @@ pub fn counts_on(f: French, t: usize) -> bool
 }
 
 // Whether the tens digit t is `quatre-vingt`.
-pub fn four_twenties(f: French, t: usize) -> bool
-    ensures { λ r. ⌜ r ≡ fourTwenties f t ⌝ }
+pub fn four_twenties(settings: Settings, t: usize) -> bool
+    ensures { λ r. ⌜ r ≡ fourTwenties settings t ⌝ }
 {
-    if t == 8 { f.region != 2 } else { false }
+    if t == 8 { settings.region != CH } else { false }
 }
 
 // Whether `et` stands between the tens word and what follows it.
-pub fn takes_et(f: French, t: usize, u: usize) -> bool
-    ensures { λ r. ⌜ r ≡ takesEt f t u ⌝ }
+pub fn takes_et(settings: Settings, t: usize, u: usize) -> bool
+    ensures { λ r. ⌜ r ≡ takesEt settings t u ⌝ }
 {
     if u == 1 {
-        if four_twenties(f, t) {
+        if four_twenties(settings, t) {
             return false;
         }
-        if t == 9 { f.region != 0 } else { true }
+        if t == 9 { settings.region != FR } else { true }
     } else {
         false
     }
 }
 
 // The word of a unit.
-pub fn unit(f: French, order: usize, u: usize) -> u16
+pub fn unit(settings: Settings, order: usize, u: usize) -> u16
     requires { ⌜ (0 < u) × (u < 10) ⌝ }
-    ensures { λ r. ⌜ Placed r (unitWord f order u) ⌝ }
+    ensures { λ r. ⌜ Placed r (unitWord settings order u) ⌝ }
 {
-    if is_une(f, order, u) {
+    if is_une(settings, order, u) {
         return places::UNE;
     }
     places::UNITS[u]
@@ -136,28 +138,28 @@ pub fn teen(u: usize) -> u16
 }
 
 // The word of a tens digit.
-pub fn ten(f: French, t: usize) -> u16
-    requires { ⌜ (1 < t) × (t < 10) × (f .region < 3) × (countsOn f t ≡ false) ⌝ }
-    ensures { λ r. ⌜ Placed r (tenWord f t) ⌝ }
+pub fn ten(settings: Settings, t: usize) -> u16
+    requires { ⌜ (1 < t) × (t < 10) × Within (frenchRanges settings) × (countsOn settings t ≡ false) ⌝ }
+    ensures { λ r. ⌜ Placed r (tenWord settings t) ⌝ }
 {
-    if four_twenties(f, t) {
+    if four_twenties(settings, t) {
         return places::QUATRE_VINGT;
     }
     places::TENS[t]
 }
 
 // The word of a tens digit that no unit follows.
-pub fn round(f: French, order: usize, t: usize) -> u16
-    requires { ⌜ (1 < t) × (t < 10) × (f .region < 3) × (countsOn f t ≡ false) ⌝ }
-    ensures { λ r. ⌜ Placed r (roundWord f order t) ⌝ }
+pub fn round(settings: Settings, order: usize, t: usize) -> u16
+    requires { ⌜ (1 < t) × (t < 10) × Within (frenchRanges settings) × (countsOn settings t ≡ false) ⌝ }
+    ensures { λ r. ⌜ Placed r (roundWord settings order t) ⌝ }
 {
     if order == 1 {
-        return ten(f, t);
+        return ten(settings, t);
     }
-    if four_twenties(f, t) {
+    if four_twenties(settings, t) {
         return places::QUATRE_VINGT + 1;
     }
-    ten(f, t)
+    ten(settings, t)
 }
 
 // Whether `cent` takes its `s`.
@@ -168,22 +170,22 @@ fn takes_s(order: usize, below: usize) -> bool
 }
 
 // The unit and `cent` of a hundreds digit above 1, which are one text.
-fn hundred(f: French, h: usize) -> u16
+fn hundred(settings: Settings, h: usize) -> u16
     requires { ⌜ (1 < h) × (h < 10) ⌝ }
-    ensures { λ r. ⌜ Plural r (form1 units (h - 1) ++ (joinerOf f ∷ utf8 "cent")) ⌝ }
+    ensures { λ r. ⌜ Plural r (form1 units (h - 1) ++ (frenchJoiner settings ∷ utf8 "cent")) ⌝ }
 {
-    if f.reformed == 1 {
+    if settings.reformed == REFORMED {
         return places::HUNDREDS[1][h];
     }
     places::HUNDREDS[0][h]
 }
 
 // The unit and `cent` or `cents`: the plural is the same part of the pool with one byte more.
-pub fn hundreds(f: French, order: usize, h: usize, below: usize) -> u16
+pub fn hundreds(settings: Settings, order: usize, h: usize, below: usize) -> u16
     requires { ⌜ (1 < h) × (h < 10) ⌝ }
-    ensures { λ r. ⌜ Placed r (form1 units (h - 1) ++ (joinerOf f ∷ centWord order below)) ⌝ }
+    ensures { λ r. ⌜ Placed r (form1 units (h - 1) ++ (frenchJoiner settings ∷ centWord order below)) ⌝ }
 {
-    let p = hundred(f, h);
+    let p = hundred(settings, h);
     if takes_s(order, below) {
         return p + 1;
     }
@@ -193,7 +195,7 @@ pub fn hundreds(f: French, order: usize, h: usize, below: usize) -> u16
 // The scale word of an order above 0, with its `s` where it takes one, which is one byte more.
 pub fn scale(order: usize, g: usize) -> u16
     requires { ⌜ (0 < order) × (order < 34) ⌝ }
-    ensures { λ r. ⌜ Placed r (form1 megas (order - 1) ++ cond (isMille order || eqb g 1) [] (utf8 "s")) ⌝ }
+    ensures { λ r. ⌜ Placed r (scaleWord order g) ⌝ }
 {
     let p = places::MEGAS[order];
     if order == 1 {

@@ -18,7 +18,7 @@ use Rattle.fr_meanings.specs.Meanings.{meaningOf}
 use Rattle.plan.specs.Phrase.{phrase}
 use Rattle.plan.specs.Plan.{pieces, says}
 use Rattle.fr.specs.Pool.{frPool}
-use Rattle.fr_read.specs.Reading.{meant, meanings, grow, times, one, guess, seems, isMinus, unsigned}
+use Rattle.fr_read.specs.Reading.{meant, meanings, grow, times, one, guess, seems, isMinus, behindMinus}
 use Rattle.fr_read.proofs.Seeming.{seems-scale}
 
 -- one more word
@@ -135,20 +135,20 @@ module _ (s : List ℕ) (h at : ℕ) (inv : seems 0 0 (meanings s) ≡ seems h 0
   group-end n = let z : 100 * h + 0 ≡ 100 * h = omega arith in inv ∙ rw (past-end s at n, z) refl
 
 -- the sign
-pub sign-none : (s : List ℕ) → meanings s ≡ [] → (ltb 0 0 ≡ isMinus (meanings s)) × (meanings (drop 0 s) ≡ unsigned (meanings s)) × (0 ≤ length s)
+pub sign-none : (s : List ℕ) → meanings s ≡ [] → (ltb 0 0 ≡ isMinus (meanings s)) × (meanings (drop 0 s) ≡ behindMinus (meanings s)) × (0 ≤ length s)
 sign-none s n = rw n (refl, refl, omega arith)
 
 module _ (s : List ℕ) (m n : ℕ) (e : meanings s ≡ m ∷ meanings (drop n s)) (l : n ≤ length s) where
-  pub sign-some : m ≡ 2001 → 0 < n → (ltb 0 n ≡ isMinus (meanings s)) × (meanings (drop n s) ≡ unsigned (meanings s)) × (n ≤ length s)
+  pub sign-some : m ≡ 2001 → 0 < n → (ltb 0 n ≡ isMinus (meanings s)) × (meanings (drop n s) ≡ behindMinus (meanings s)) × (n ≤ length s)
   sign-some q p =
       let a : ltb 0 n ≡ isMinus (meanings s) = rw (e, q, lt-ltb 0 n p) refl in
-      let b : meanings (drop n s) ≡ unsigned (meanings s) = rw (e, q) refl in
+      let b : meanings (drop n s) ≡ behindMinus (meanings s) = rw (e, q) refl in
       (a, b, l)
 
-  pub sign-other : (m ≡ 2001 → ⊥) → (ltb 0 0 ≡ isMinus (meanings s)) × (meanings (drop 0 s) ≡ unsigned (meanings s)) × (0 ≤ length s)
+  pub sign-other : (m ≡ 2001 → ⊥) → (ltb 0 0 ≡ isMinus (meanings s)) × (meanings (drop 0 s) ≡ behindMinus (meanings s)) × (0 ≤ length s)
   sign-other q =
       let a : false ≡ isMinus (meanings s) = rw (e, ne-eqb m 2001 q) refl in
-      let b : meanings s ≡ unsigned (meanings s) = rw (← a) refl in
+      let b : meanings s ≡ behindMinus (meanings s) = rw (← a) refl in
       (a, b, omega arith)
 
 -- a plan that stands

@@ -17,7 +17,7 @@ use Rattle.fr.specs.Grammar.{Says, SaysNth}
 use Rattle.fr.specs.declared.French.{French}
 use Rattle.fr.proofs.Sentences.{says, said, says-nth, said-nth}
 use Rattle.fr_plan.specs.Groups34.{Groups34}
-use Rattle.fr_read.specs.Reading.{meanings, isMinus, unsigned, guessed}
+use Rattle.fr_read.specs.Reading.{meanings, isMinus, behindMinus, guessed}
 use Rattle.fr_read.proofs.Guesses.{guess-cardinal, guess-ordinal}
 use Rattle.fr_read.proofs.Bounds.{guessed-groups}
 
@@ -42,7 +42,7 @@ same-texts (a ∷ s) (b ∷ t) = go (ℕ-discrete a b) (same-texts s t)
 
 module _ (F : French) (v : InRange F) (s : List ℕ) where
   -- cardinals: the guess of a sentence is its sign and its groups
-  guess-says : {m : Bool} {n : ℕ} → Says F s m n → (isMinus (meanings s) ≡ m) × (guessed (unsigned (meanings s)) ≡ groupsOf 34 n)
+  guess-says : {m : Bool} {n : ℕ} → Says F s m n → (isMinus (meanings s) ≡ m) × (guessed (behindMinus (meanings s)) ≡ groupsOf 34 n)
   guess-says {m} {n} w =
       let p = said F w in
       let z : n ≡ 0 → m ≡ false = λ e. unsigned-zero m (λ q. omega (arith, e, p .2 q)) in
@@ -65,7 +65,7 @@ module _ (F : French) (v : InRange F) (s : List ℕ) where
   sign = isMinus (meanings s)
 
   abbrev groups : List ℕ
-  groups = guessed (unsigned (meanings s))
+  groups = guessed (behindMinus (meanings s))
 
   abbrev isNought : Bool
   isNought = eqb (total groups) 0
@@ -73,7 +73,7 @@ module _ (F : French) (v : InRange F) (s : List ℕ) where
   pub stands-says : cardinalPhrase F isNought sign groups ≡ s → Says F s (cond isNought false sign) (total groups)
   unfolding cardinalPhrase cardinalWords
   stands-says e =
-      let g = guessed-groups (unsigned (meanings s)) in
+      let g = guessed-groups (behindMinus (meanings s)) in
       let w : Says F (cardinalPhrase F isNought (cond isNought false sign) (groupsOf 34 (total groups))) (cond isNought false sign) (total groups) =
       says F (cond isNought false sign) (total groups) (groups-hold groups g) (λ z. rw z refl) in
       rw (groups-are groups g, unsigned-nought isNought sign, e) at w

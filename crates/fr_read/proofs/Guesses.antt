@@ -20,7 +20,7 @@ use Rattle.fr.specs.Cardinal.{groupOf, groupsBelow, cardinalWords, cardinalPhra
 use Rattle.fr.specs.Ordinal.{nth, ordinalPhrase}
 use Rattle.fr.specs.declared.French.{French}
 use Rattle.fr_plan.proofs.Said.{spoken}
-use Rattle.fr_read.specs.Reading.{meanings, guess, seems, reads, isMinus, unsigned, guessed}
+use Rattle.fr_read.specs.Reading.{meanings, guess, seems, reads, isMinus, behindMinus, guessed}
 use Rattle.fr_read.proofs.Splits.{sense, sense-append, Closed, Sounds, sounds-append, sounds-closed, meanings-joined, meanings-nth}
 use Rattle.fr_read.proofs.Known.{zero-known, moins-means, premier-means}
 use Rattle.fr_read.proofs.Below.{zeros, reads-here, reads-over, one-below}
@@ -162,7 +162,7 @@ module _ (F : French) (v : InRange F) (n : ℕ) where
   one-guess e = lone 33 1 (omega arith) ∙ ap (groupsOf 34) (sym e)
 
   -- a cardinal's sign and groups
-  pub guess-cardinal : (m : Bool) → (n ≡ 0 → m ≡ false) → let s = meanings (cardinalPhrase F (eqb n 0) m (groupsOf 34 n)) in (isMinus s ≡ m) × (guessed (unsigned s) ≡ groupsOf 34 n)
+  pub guess-cardinal : (m : Bool) → (n ≡ 0 → m ≡ false) → let s = meanings (cardinalPhrase F (eqb n 0) m (groupsOf 34 n)) in (isMinus s ≡ m) × (guessed (behindMinus s) ≡ groupsOf 34 n)
   unfolding cardinalPhrase cardinalWords gs
   guess-cardinal m z = go (eqb n 0) refl m z
     where
@@ -170,7 +170,7 @@ module _ (F : French) (v : InRange F) (n : ℕ) where
       said ws c = meanings-joined (joiner F) ws (joiner-gap F) c
 
       go : (t : Bool) → eqb n 0 ≡ t → (m : Bool) → (n ≡ 0 → m ≡ false)
-          → let s = meanings (joinedBy (joiner F) (cardinalWords F t m (groupsOf 34 n))) in (isMinus s ≡ m) × (guessed (unsigned s) ≡ groupsOf 34 n)
+          → let s = meanings (joinedBy (joiner F) (cardinalWords F t m (groupsOf 34 n))) in (isMinus s ≡ m) × (guessed (behindMinus s) ≡ groupsOf 34 n)
       go true e m z =
           let q = eqb-true n 0 e in
           rw (said (utf8 "zéro" ∷ []) (zero-known .sound .alone, tt), zero-known .means, z q) (refl, zero-guess q)

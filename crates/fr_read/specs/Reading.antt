@@ -56,8 +56,8 @@ isMinus [] = false
 isMinus (m ∷ ms) = eqb m 2001
 
 -- what is behind it, if it is there
-abbrev pub unsigned : List ℕ → List ℕ
-unsigned ms = cond (isMinus ms) (drop 1 ms) ms
+abbrev pub behindMinus : List ℕ → List ℕ
+behindMinus ms = cond (isMinus ms) (drop 1 ms) ms
 
 -- the groups of a text
 unfoldable pub guessed : List ℕ → List ℕ

@@ -1,9 +1,9 @@
 // Readers of French phrases. The meanings of the words are added up, leniently, to a number; then the number's own phrase, by the speller's
 // plan, is held against the bytes. So everything that depends on a setting stands in the planner alone.
 use figures::Read;
-use fr::French;
 use fr_plan::ORDERS;
 use fr_plan::PLAN;
+use settings::Settings;
 ghost use mathlib.Core.Path.{_≡_};
 ghost use mathlib.Core.List.{_∷_, _++_};
 ghost use Prim.Native.Nat.{ℕ, _+_, _-_, _%_, _≤_, _<_};
@@ -12,13 +12,14 @@ ghost use lib.ListN.{length, drop, replicate};
 ghost use Rattle.base.specs.Decides.{Decides};
 ghost use Rattle.figures.specs.Groups.{total};
 ghost use Rattle.figures.specs.Seen.{ReadOf};
-ghost use Rattle.fr.specs.Rules.{InRange};
-ghost use Rattle.fr.specs.Cardinal.{cardinalPhrase};
-ghost use Rattle.fr.specs.Ordinal.{ordinalPhrase};
-ghost use Rattle.fr.specs.Grammar.{Says};
+ghost use Rattle.settings.specs.Settings.{frenchRanges, Within};
+ghost use Rattle.cardinals.specs.Cardinal.{cardinalPhrase};
+ghost use Rattle.cardinals.specs.Grammar.{Says};
+ghost use Rattle.fr.specs.Rules.{french};
+ghost use Rattle.fr.specs.Ordinal.{nthPhrase};
 ghost use Rattle.groups.specs.Highest.{ZeroFrom, Highest};
 ghost use Rattle.fr_plan.specs.Groups34.{Groups34};
-ghost use Rattle.fr_read.specs.Reading.{meanings, grow as growOf, times as timesOf, one as oneOf, guess as guessOf, seems, reads, isMinus, unsigned, guessed};
+ghost use Rattle.fr_read.specs.Reading.{meanings, grow as growOf, times as timesOf, one as oneOf, guess as guessOf, seems, reads, isMinus, behindMinus, guessed};
 ghost use Rattle.fr_read.specs.Promise.{ReadNth};
 
 // The meaning of the minus word, and those of the scale words: an order above this.
@@ -190,7 +191,7 @@ fn guess(s: &[u8], out: &mut [u16; ORDERS]) -> usize
 
 // How many bytes the minus word and the gap behind it have at the front; 0 where it does not stand there.
 fn sign(s: &[u8]) -> usize
-    ensures { λ r. ⌜ (ltb 0 r ≡ isMinus (meanings (now (s .entry)))) × (meanings (drop r (now (s .entry))) ≡ unsigned (meanings (now (s .entry)))) × (r ≤ length (now (s .entry))) ⌝ }
+    ensures { λ r. ⌜ (ltb 0 r ≡ isMinus (meanings (now (s .entry)))) × (meanings (drop r (now (s .entry))) ≡ behindMinus (meanings (now (s .entry)))) × (r ≤ length (now (s .entry))) ⌝ }
 {
     let w = walker::word(s, 0);
     if w.more {
@@ -204,53 +205,54 @@ fn sign(s: &[u8]) -> usize
 
 // Whether s is the cardinal of these groups, which have n orders.
 fn is_cardinal(
-    f: French,
+    settings: Settings,
     zero: bool,
     negative: bool,
     n: usize,
     gs: &[u16; ORDERS],
     s: &[u8],
 ) -> bool
-    requires { ⌜ InRange f × ZeroFrom (now gs) n × (n ≤ 34) ⌝ }
-    ensures { λ r. ⌜ Decides r (cardinalPhrase f zero negative (now (gs .entry)) ≡ now (s .entry)) ⌝ }
+    requires { ⌜ Within (frenchRanges settings) × ZeroFrom (now gs) n × (n ≤ 34) ⌝ }
+    requires { ⌜ Groups34 (now gs) × (zero ≡ eqb (total (now gs)) 0) ⌝ }
+    ensures { λ r. ⌜ Decides r (cardinalPhrase (french settings) negative (total (now (gs .entry))) ≡ now (s .entry)) ⌝ }
 {
     let mut plan = [0u32; PLAN];
-    let k = fr_plan::plan_cardinal(f, zero, negative, n, gs, &mut plan);
+    let k = fr_plan::plan_cardinal(settings, zero, negative, n, gs, &mut plan);
     fr::stands(&plan[..k], s)
 }
 
 // Whether s is the ordinal of these groups, which have n orders.
-fn is_ordinal(f: French, n: usize, gs: &[u16; ORDERS], s: &[u8]) -> bool
-    requires { ⌜ InRange f × Groups34 (now gs) × Highest (now gs) n ⌝ }
-    ensures { λ r. ⌜ Decides r (ordinalPhrase f (eqb (total (now (gs .entry))) 0) (eqb (total (now (gs .entry))) 1) (now (gs .entry)) ≡ now (s .entry)) ⌝ }
+fn is_ordinal(settings: Settings, n: usize, gs: &[u16; ORDERS], s: &[u8]) -> bool
+    requires { ⌜ Within (frenchRanges settings) × Groups34 (now gs) × Highest (now gs) n ⌝ }
+    ensures { λ r. ⌜ Decides r (nthPhrase settings (total (now (gs .entry))) ≡ now (s .entry)) ⌝ }
 {
     let lent = fr::texts();
     let mut plan = [0u32; PLAN];
-    let k = fr_plan::plan_ordinal(&lent, f, n, gs, &mut plan);
+    let k = fr_plan::plan_ordinal(&lent, settings, n, gs, &mut plan);
     plan::stands(&lent, &plan[..k], s)
 }
 
 // Any bytes as a cardinal under these settings: what they are by the grammar, with the groups in out.
-pub fn read_cardinal(f: French, s: &[u8], out: &mut [u16; ORDERS]) -> Read
-    requires { ⌜ InRange f × (length (now out) ≡ 34) ⌝ }
-    ensures { λ r. ⌜ ReadOf (Says f (now (s .entry))) (r .seen) (now (out .exit)) × Groups34 (now (out .exit)) × Highest (now (out .exit)) (r .orders) ⌝ }
+pub fn read_cardinal(settings: Settings, s: &[u8], out: &mut [u16; ORDERS]) -> Read
+    requires { ⌜ Within (frenchRanges settings) × (length (now out) ≡ 34) ⌝ }
+    ensures { λ r. ⌜ ReadOf (Says (french settings) (now (s .entry))) (r .seen) (now (out .exit)) × Groups34 (now (out .exit)) × Highest (now (out .exit)) (r .orders) ⌝ }
 {
     let k = sign(s);
     let m = guess(&s[k..], out);
     let n = groups::top(m, out);
     let zero = n == 0;
-    let stands = is_cardinal(f, zero, 0 < k, n, out, s);
+    let stands = is_cardinal(settings, zero, 0 < k, n, out, s);
     let seen = figures::seen_of(stands, zero, 0 < k);
     Read { seen, orders: n }
 }
 
 // Any bytes as an ordinal under these settings: whether they are one by the grammar, with the groups in out.
-pub fn read_ordinal(f: French, s: &[u8], out: &mut [u16; ORDERS]) -> Nth
-    requires { ⌜ InRange f × (length (now out) ≡ 34) ⌝ }
-    ensures { λ r. ⌜ ReadNth f (now (s .entry)) (r .stands) (now (out .exit)) × Groups34 (now (out .exit)) × Highest (now (out .exit)) (r .orders) ⌝ }
+pub fn read_ordinal(settings: Settings, s: &[u8], out: &mut [u16; ORDERS]) -> Nth
+    requires { ⌜ Within (frenchRanges settings) × (length (now out) ≡ 34) ⌝ }
+    ensures { λ r. ⌜ ReadNth settings (now (s .entry)) (r .stands) (now (out .exit)) × Groups34 (now (out .exit)) × Highest (now (out .exit)) (r .orders) ⌝ }
 {
     let m = guess(s, out);
     let n = groups::top(m, out);
-    let stands = is_ordinal(f, n, out, s);
+    let stands = is_ordinal(settings, n, out, s);
     Nth { stands, orders: n }
 }

@@ -1,7 +1,6 @@
 // French forms: cardinals and ordinals.
 use super::write::bad;
 use super::write::finish;
-use fr::French;
 use phrases_forms::Kind;
 use phrases_forms::runs::is_closed;
 ghost use Prim.Native.Nat.{_≤_};
@@ -59,12 +58,7 @@ pub fn settle(kind: Kind, s: &[u8], out: &mut [u8]) -> usize
 {
     let w = phrases_forms::settings::french(s);
     let at = w.next;
-    let f = French {
-        feminine: w.a,
-        reformed: w.b,
-        region: w.c,
-    };
-    if fr_calls::in_range(f) {
+    if settings::is_french(w.a, w.b, w.c) {
         return form(kind, w.a, w.b, w.c, &s[at..], out);
     }
     bad(out)

@@ -132,7 +132,7 @@ pub fn settle(kind: Kind, s: &[u8], out: &mut [u8]) -> usize
 {
     let w = phrases_forms::settings::ukrainian(s);
     let at = w.next;
-    if uk::in_range(w.a, w.b, w.c) {
+    if settings::is_ukrainian(w.a, w.b, w.c) {
         return form(kind, w.a, w.b, w.c, &s[at..], out);
     }
     bad(out)

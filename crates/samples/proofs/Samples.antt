@@ -30,7 +30,7 @@ use Rattle.fr.specs.FrTables.{units as frUnits, tens as frTens, teens, megas}
 use Rattle.fr.specs.Rules.{centWord, hundredWords, tenWord, roundWord, link, unitWord, pairWord, lowWords, scaleWords, groupWords}
 use Rattle.fr.specs.Cardinal.{groupsBelow as frGroupsBelow, cardinalWords as frCardinalWords, cardinalPhrase}
 use Rattle.fr.specs.Ordinal.{withoutE, nth, ordinalPhrase as frOrdinalPhrase}
-use Rattle.uk_read.specs.Reading.{Taken, taken, sums, signed, unsigned}
+use Rattle.uk_read.specs.Reading.{Taken, taken, sums, signed, afterMinus}
 use Rattle.uk_read.proofs.Taking.{closed}
 use Rattle.uk_read.proofs.Falls.{sums-taken, sums-over}
 use Rattle.uk_calls.specs.Cardinals.{cardinal}
@@ -57,7 +57,7 @@ unsigned-two : signed (split twoThousand) ≡ false
 unfolding firstWord afterWord split whole key lookup shifts table meaningOf taken sums
 unsigned-two = refl
 
-unsigned-words : unsigned (split twoThousand) ≡ split twoThousand
+unsigned-words : afterMinus (split twoThousand) ≡ split twoThousand
 unfolding firstWord afterWord split whole key lookup shifts table meaningOf
 unsigned-words = refl
 
@@ -73,7 +73,7 @@ above (suc k) =
     let o : taken 0 (split twoThousand) .order ≡ 1 = ap (λ (t : Taken). t .order) taken-two in
     sums-over (suc (suc k)) (split twoThousand) (λ z. omega arith) .0 ∙ above k
 
-sum-two : total (sums 22 (unsigned (split twoThousand))) ≡ 2000
+sum-two : total (sums 22 (afterMinus (split twoThousand))) ≡ 2000
 sum-two = rw unsigned-words (above 20)
 
 unread-two : Holds (unread "два тисячі")

@@ -11,13 +11,13 @@ use Rattle.tokens.proofs.Words.{split-joined}
 use Rattle.figures.specs.Groups.{groupsOf, total}
 use Rattle.uk.specs.Ukrainian.{ukrainian}
 use Rattle.uk.specs.Cardinal.{cardinalWords}
-use Rattle.uk_read.specs.Reading.{sums, signed, unsigned}
+use Rattle.uk_read.specs.Reading.{sums, signed, afterMinus}
 use Rattle.uk_read.proofs.Known.{lawful}
 use Rattle.uk_read.proofs.Numbers.{spelled}
 use Rattle.uk_read.proofs.Sentences.{separable, reads}
 use Rattle.uk_calls.specs.Cardinals.{Means}
 
-pub no-sentence : (g c : ℕ) (s : List ℕ) (m : Bool) (n : ℕ) → g < 3 → c < 6 → signed (split s) ≡ m → total (sums 22 (unsigned (split s))) ≡ n
+pub no-sentence : (g c : ℕ) (s : List ℕ) (m : Bool) (n : ℕ) → g < 3 → c < 6 → signed (split s) ≡ m → total (sums 22 (afterMinus (split s))) ≡ n
     → (joined (cardinalWords (ukrainian g c) (eqb n 0) m (groupsOf 22 n)) ≡ s → ⊥) → (t : List ℕ) → Means g c s t → ⊥
 no-sentence g c s m n hg hc em en f t p =
     let W = ukrainian g c in
@@ -26,6 +26,6 @@ no-sentence g c s m n hg hc em en f t p =
     let x : split s ≡ p .says .words = ap split (p .says .bytes) ∙ split-joined (p .says .words) (separable W L d) in
     let r = reads W L d in
     let km : p .minus ≡ m = sym (r .0) ∙ sym (ap signed x) ∙ em in
-    let kn : p .magnitude ≡ n = sym (r .1) ∙ sym (ap (λ ws. total (sums 22 (unsigned ws))) x) ∙ en in
+    let kn : p .magnitude ≡ n = sym (r .1) ∙ sym (ap (λ ws. total (sums 22 (afterMinus ws))) x) ∙ en in
     let w = spelled W d .1 in
     f (ap joined (rw (km, kn) at w) ∙ sym (p .says .bytes))

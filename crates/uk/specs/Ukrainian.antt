@@ -1,57 +1,81 @@
--- The Ukrainian words of a gender and a case, whole: stem and ending joined (01, "Ukrainian cardinals").
--- Genders are 0 masculine, 1 feminine, 2 neuter; grammatical numbers 0 singular, 1 plural; cases 0 to 5 from the nominative on.
+-- The Ukrainian words under settings, whole: stem and ending joined; agreement; and what the language has for its cardinals (01, "Ukrainian
+-- cardinals").
 -- Assumes nothing.
-use Prim.Native.Nat.{ℕ, zero, suc, _-_}
+use Prim.Native.Nat.{ℕ, zero, suc, _-_, _/_, _%_}
 use mathlib.Core.Bool.{Bool, cond, _&&_, _||_}
-use mathlib.Core.List.{_++_}
+use mathlib.Core.List.{List, [], _∷_, _++_}
 use lib.Dec.{eqb, ltb}
-use Rattle.base.specs.Join.{Word}
+use Rattle.base.specs.Join.{Word, space}
 use Rattle.base.specs.Utf8.{utf8, form1, form2, form3}
+use Rattle.settings.specs.Settings.{masculine, feminine, singular, plural, nominative, genitive, inGender, inForm}
+use Rattle.settings.specs.declared.Settings.{Settings}
+use Rattle.cardinals.specs.Cardinal.{Lexicon}
 use Rattle.uk.specs.UkTables.{zeros, gendered, units, teensBases, teensFlexions, tens, hundreds, thousandFlexions, megaBases, megaFlexions}
-use Rattle.uk.specs.Rules.{Words}
+use Rattle.uk.specs.Rules.{DigitWords, numWords}
 
--- the gender of units 1 and 2: the caller's at order 0, feminine at order 1, masculine above
-abbrev pub genderAt : ℕ → ℕ → ℕ
-genderAt zero gender = gender
-genderAt (suc zero) gender = 1
-genderAt (suc (suc k)) gender = 0
+-- the settings of the units at an order: "the caller's gender at order 0, feminine at order 1, masculine above"
+abbrev pub atOrder : ℕ → Settings → Settings
+atOrder zero S = S
+atOrder (suc zero) S = inGender feminine S
+atOrder (suc (suc k)) S = inGender masculine S
 
--- a unit 1 to 9: 1 and 2 by gender
-unfoldable pub unitForm : ℕ → ℕ → ℕ → Word
-unitForm gender case u = cond (ltb u 3) (form3 gendered (u - 1) gender case) (form2 units (u - 3) case)
+-- a unit 1 to 9: "Units 1 and 2 come from `GENDERED`"
+unfoldable pub unitForm : Settings → ℕ → Word
+unitForm S u = cond (ltb u 3) (form3 gendered (u - 1) (S .gender) (S .case)) (form2 units (u - 3) (S .case))
 
 -- a teen by its value 10 to 19
-unfoldable pub teenForm : ℕ → ℕ → Word
-teenForm case v = form1 teensBases (v - 10) ++ form1 teensFlexions case
+unfoldable pub teenForm : Settings → ℕ → Word
+teenForm S v = form1 teensBases (v - 10) ++ form1 teensFlexions (S .case)
 
--- agreement with the tens t and the units u: units 0 or above 4, or tens 1
+-- the words of digits under settings
+unfoldable pub ukrainianDigits : Settings → DigitWords
+ukrainianDigits S = record {
+  hundred = λ h. form2 hundreds (h - 1) (S .case);
+  ten = λ t. form2 tens (t - 2) (S .case);
+  teen = λ v. teenForm S v;
+  unit = λ u. unitForm S u;
+}
+
+-- agreement with a count that ends in the tens t and the units u: "units 0 or above 4, or tens 1"
 abbrev pub many : ℕ → ℕ → Bool
 many t u = (eqb u 0 || ltb 4 u) || eqb t 1
 
--- with many, plural; else for units 1 singular; else plural
+-- with many, "plural"; "Else units 1: singular"; "Else plural"
 abbrev pub agreedNumber : ℕ → ℕ → ℕ
-agreedNumber t u = cond (many t u) 1 (cond (eqb u 1) 0 1)
+agreedNumber t u = cond (many t u) plural (cond (eqb u 1) singular plural)
 
--- with many, genitive if the case is nominative; otherwise the same case
-abbrev pub agreedCase : ℕ → ℕ → ℕ → ℕ
-agreedCase t u case = cond (many t u && eqb case 0) 1 case
+-- with many, "genitive if the column is nominative"; otherwise "the same column"
+abbrev pub agreedCase : Settings → ℕ → ℕ → ℕ
+agreedCase S t u = cond (many t u && eqb (S .case) nominative) genitive (S .case)
 
--- the ending of the scale noun of an order, by grammatical number and case
-unfoldable pub scaleEnding : ℕ → ℕ → ℕ → Word
-scaleEnding order number case = cond (eqb order 1) (form2 thousandFlexions number case) (form2 megaFlexions number case)
+-- the settings of a noun that agrees with that count
+abbrev pub agreed : ℕ → ℕ → Settings → Settings
+agreed t u S = inForm (agreedNumber t u) (agreedCase S t u) S
+
+-- the ending of the scale noun of an order
+unfoldable pub scaleEnding : Settings → ℕ → Word
+scaleEnding S order = cond (eqb order 1) (form2 thousandFlexions (S .number) (S .case)) (form2 megaFlexions (S .number) (S .case))
 
 -- the scale noun of an order above 0, as it agrees with the tens t and the units u
-unfoldable pub nounForm : ℕ → ℕ → ℕ → ℕ → Word
-nounForm case order t u = form1 megaBases (order - 1) ++ scaleEnding order (agreedNumber t u) (agreedCase t u case)
+unfoldable pub scaleNoun : Settings → ℕ → ℕ → ℕ → Word
+scaleNoun S order t u = form1 megaBases (order - 1) ++ scaleEnding (agreed t u S) order
 
--- all words of a gender and a case
-unfoldable pub ukrainian : ℕ → ℕ → Words
-ukrainian gender case = record {
-  zeroWord = form1 zeros case;
+-- "A nonzero group above order 0 ends in its scale noun"
+abbrev pub nounWords : Settings → ℕ → ℕ → ℕ → List Word
+nounWords S zero t u = []
+nounWords S (suc k) t u = scaleNoun S (suc k) t u ∷ []
+
+-- the words of a group g at an order
+unfoldable pub ukrainianGroup : Settings → ℕ → ℕ → List Word
+ukrainianGroup S order g =
+    numWords (ukrainianDigits (atOrder order S)) (g / 100 % 10) (g / 10 % 10) (g % 10) ++ nounWords S order (g / 10 % 10) (g % 10)
+
+-- what Ukrainian has for its cardinals: 22 orders ("Number texts"), words joined by a space, zero and minus
+unfoldable pub ukrainian : Settings → Lexicon
+ukrainian S = record {
+  orders = 22;
+  joiner = space;
+  zeroWord = form1 zeros (S .case);
   minusWord = utf8 "мінус";
-  hundred = λ h. form2 hundreds (h - 1) case;
-  ten = λ t. form2 tens (t - 2) case;
-  teen = λ v. teenForm case v;
-  unit = λ k u. unitForm (genderAt k gender) case u;
-  noun = λ k t u. nounForm case k t u;
+  groupWords = λ order g. ukrainianGroup S order g;
 }

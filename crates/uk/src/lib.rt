@@ -1,9 +1,15 @@
-// Ukrainian: the settings, the places of the words by value and case, and the rules that the code decides. Speller and reader see the contracts
-// alone.
+// Ukrainian: the places of the words by value and settings, and the rules that the code decides. Speller and reader see the contracts alone.
 mod places; // places.rt: the tables of uk.rs, with the place of each text
 mod pool; // pool.rt: the texts
 
 use base::Answer;
+use settings::FEMININE;
+use settings::GENITIVE;
+use settings::MASCULINE;
+use settings::NOMINATIVE;
+use settings::PLURAL;
+use settings::SINGULAR;
+use settings::Settings;
 ghost use mathlib.Core.Path.{_≡_};
 ghost use Prim.Native.Nat.{_-_, _*_, _≤_, _<_};
 ghost use lib.ListN.{length};
@@ -15,8 +21,8 @@ ghost use Rattle.plan.specs.Phrase.{phrase};
 ghost use Rattle.plan.specs.Plan.{pieces, says};
 ghost use Rattle.uk.specs.Pool.{ukPool};
 ghost use Rattle.uk.specs.UkTables.{zeros, teensBases, teensFlexions, tens, hundreds, megaBases};
-ghost use Rattle.uk.specs.Settings.{inRange};
-ghost use Rattle.uk.specs.Ukrainian.{genderAt, unitForm, many as manyOf, agreedNumber, agreedCase, scaleEnding};
+ghost use Rattle.settings.specs.Settings.{ukrainianRanges, Within};
+ghost use Rattle.uk.specs.Ukrainian.{atOrder, unitForm, many as manyOf, agreed, scaleEnding};
 
 // How many groups a number has, and its text digits: three for each group.
 pub const ORDERS: usize = 22;
@@ -25,41 +31,6 @@ pub const DIGITS: usize = 66;
 
 // How many cases a form has.
 pub const CASES: usize = 6;
-
-// The settings of a Ukrainian call, in 01's numbers.
-pub struct Settings {
-    pub gender: usize,
-    pub number: usize,
-    pub case: usize,
-}
-
-// The grammatical number and the case of a noun that agrees with a count.
-pub struct Agreed {
-    pub number: usize,
-    pub case: usize,
-}
-
-// Whether setting numbers are in their ranges.
-pub fn in_range(gender: u32, number: u32, case: u32) -> bool
-    ensures { λ r. ⌜ r ≡ inRange gender number case ⌝ }
-{
-    if gender < 3 {
-        if number < 2 { case < 6 } else { false }
-    } else {
-        false
-    }
-}
-
-// The settings with these numbers.
-pub fn settings_of(gender: u32, number: u32, case: u32) -> Settings
-    ensures { λ r. ⌜ (r .gender ≡ gender) × (r .number ≡ number) × (r .case ≡ case) ⌝ }
-{
-    Settings {
-        gender: gender as usize,
-        number: number as usize,
-        case: case as usize,
-    }
-}
 
 // The texts. An array is made on the stack where it is used, so that it is made once a call and lent on.
 fn texts() -> [u8; pool::SIZE]
@@ -94,18 +65,21 @@ pub fn minus() -> u16
 }
 
 // Zero's word.
-pub fn zero(case: usize) -> u16
-    requires { ⌜ case < 6 ⌝ }
-    ensures { λ r. ⌜ part ukPool r ≡ form1 zeros case ⌝ }
+pub fn zero(settings: Settings) -> u16
+    requires { ⌜ Within (ukrainianRanges settings) ⌝ }
+    ensures { λ r. ⌜ part ukPool r ≡ form1 zeros (settings .case) ⌝ }
 {
+    let case = settings.case as usize;
     places::ZEROS[case]
 }
 
 // A unit: 1 and 2 by gender.
-pub fn unit(gender: usize, case: usize, u: usize) -> u16
-    requires { ⌜ (gender < 3) × (case < 6) × (0 < u) × (u < 10) ⌝ }
-    ensures { λ r. ⌜ part ukPool r ≡ unitForm gender case u ⌝ }
+pub fn unit(settings: Settings, u: usize) -> u16
+    requires { ⌜ Within (ukrainianRanges settings) × (0 < u) × (u < 10) ⌝ }
+    ensures { λ r. ⌜ part ukPool r ≡ unitForm settings u ⌝ }
 {
+    let gender = settings.gender as usize;
+    let case = settings.case as usize;
     if u < 3 {
         return places::GENDERED[u - 1][gender][case];
     }
@@ -120,26 +94,29 @@ pub fn teen(u: usize) -> u16
     places::TEENS_BASES[u]
 }
 
-pub fn teen_ending(case: usize) -> u16
-    requires { ⌜ case < 6 ⌝ }
-    ensures { λ r. ⌜ part ukPool r ≡ form1 teensFlexions case ⌝ }
+pub fn teen_ending(settings: Settings) -> u16
+    requires { ⌜ Within (ukrainianRanges settings) ⌝ }
+    ensures { λ r. ⌜ part ukPool r ≡ form1 teensFlexions (settings .case) ⌝ }
 {
+    let case = settings.case as usize;
     places::TEENS_FLEXIONS[case]
 }
 
 // A tens word above 1.
-pub fn ten(case: usize, t: usize) -> u16
-    requires { ⌜ (case < 6) × (1 < t) × (t < 10) ⌝ }
-    ensures { λ r. ⌜ part ukPool r ≡ form2 tens (t - 2) case ⌝ }
+pub fn ten(settings: Settings, t: usize) -> u16
+    requires { ⌜ Within (ukrainianRanges settings) × (1 < t) × (t < 10) ⌝ }
+    ensures { λ r. ⌜ part ukPool r ≡ form2 tens (t - 2) (settings .case) ⌝ }
 {
+    let case = settings.case as usize;
     places::TENS[t - 2][case]
 }
 
 // A hundred word.
-pub fn hundred(case: usize, h: usize) -> u16
-    requires { ⌜ (case < 6) × (0 < h) × (h < 10) ⌝ }
-    ensures { λ r. ⌜ part ukPool r ≡ form2 hundreds (h - 1) case ⌝ }
+pub fn hundred(settings: Settings, h: usize) -> u16
+    requires { ⌜ Within (ukrainianRanges settings) × (0 < h) × (h < 10) ⌝ }
+    ensures { λ r. ⌜ part ukPool r ≡ form2 hundreds (h - 1) (settings .case) ⌝ }
 {
+    let case = settings.case as usize;
     places::HUNDREDS[h - 1][case]
 }
 
@@ -152,30 +129,30 @@ pub fn scale(order: usize) -> u16
 }
 
 // Its ending.
-pub fn scale_ending(order: usize, agreed: Agreed) -> u16
-    requires { ⌜ (agreed .number < 2) × (agreed .case < 6) ⌝ }
-    ensures { λ r. ⌜ part ukPool r ≡ scaleEnding order (agreed .number) (agreed .case) ⌝ }
+pub fn scale_ending(settings: Settings, order: usize) -> u16
+    requires { ⌜ Within (ukrainianRanges settings) ⌝ }
+    ensures { λ r. ⌜ part ukPool r ≡ scaleEnding settings order ⌝ }
 {
-    let n = agreed.number;
-    let c = agreed.case;
+    let n = settings.number as usize;
+    let c = settings.case as usize;
     if order == 1 {
         return places::THOUSAND_FLEXIONS[n][c];
     }
     places::MEGA_FLEXIONS[n][c]
 }
 
-// The gender of the units at an order: the caller's, then feminine, then masculine.
-pub fn gender_at(order: usize, gender: usize) -> usize
-    requires { ⌜ gender < 3 ⌝ }
-    ensures { λ r. ⌜ (r ≡ genderAt order gender) × (r < 3) ⌝ }
+// The settings of the units at an order: the caller's gender, then feminine, then masculine.
+pub fn at_order(order: usize, settings: Settings) -> Settings
+    requires { ⌜ Within (ukrainianRanges settings) ⌝ }
+    ensures { λ r. ⌜ (r ≡ atOrder order settings) × Within (ukrainianRanges r) ⌝ }
 {
     if order == 0 {
-        return gender;
+        return settings;
     }
     if order == 1 {
-        return 1;
+        return settings::in_gender(FEMININE, settings);
     }
-    0
+    settings::in_gender(MASCULINE, settings)
 }
 
 // Whether a count that ends in these digits takes the plural of many.
@@ -191,20 +168,19 @@ fn is_many(t: usize, u: usize) -> bool
     t == 1
 }
 
-// Agreement with a count that ends in these digits.
-pub fn agreement(case: usize, t: usize, u: usize) -> Agreed
-    requires { ⌜ case < 6 ⌝ }
-    ensures { λ r. ⌜ (r .number ≡ agreedNumber t u) × (r .case ≡ agreedCase t u case) ⌝ }
-    ensures { λ r. ⌜ (r .number < 2) × (r .case < 6) ⌝ }
+// The settings of a noun that agrees with a count that ends in these digits.
+pub fn agreement(t: usize, u: usize, settings: Settings) -> Settings
+    requires { ⌜ Within (ukrainianRanges settings) ⌝ }
+    ensures { λ r. ⌜ (r ≡ agreed t u settings) × Within (ukrainianRanges r) ⌝ }
 {
     if is_many(t, u) {
-        if case == 0 {
-            return Agreed { number: 1, case: 1 };
+        if settings.case == NOMINATIVE {
+            return settings::in_form(PLURAL, GENITIVE, settings);
         }
-        return Agreed { number: 1, case };
+        return settings::in_form(PLURAL, settings.case, settings);
     }
     if u == 1 {
-        return Agreed { number: 0, case };
+        return settings::in_form(SINGULAR, settings.case, settings);
     }
-    Agreed { number: 1, case }
+    settings::in_form(PLURAL, settings.case, settings)
 }

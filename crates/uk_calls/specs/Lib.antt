@@ -1,1 +1,1 @@
-pub mod Cardinals
+pub mod UkCardinals

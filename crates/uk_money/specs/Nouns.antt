@@ -1,11 +1,13 @@
 -- The names of units of money: how their nouns are declined (01, "Ukrainian money"; the nouns' tables are uk.rs's).
--- Grammatical numbers are 0 singular, 1 plural; cases 0 to 5 from the nominative on; genders 0 masculine, 1 feminine.
 -- Assumes nothing.
-use Prim.Native.Nat.{ℕ}
+use Prim.Native.Nat.{ℕ, _/_, _%_}
 use Prim.Native.String.{String}
 use mathlib.Core.List.{List, [], _∷_, _++_, map}
 use Rattle.base.specs.Join.{Word}
 use Rattle.base.specs.Utf8.{utf8, form2}
+use Rattle.settings.specs.Settings.{masculine, feminine}
+use Rattle.settings.specs.declared.Settings.{Settings}
+use Rattle.uk.specs.Ukrainian.{agreed}
 use Rattle.uk_money.specs.NounTables.{noun2stGroupHardDeclensions, noun2stGroupSoftDeclensions, noun1stGroupSoftDeclensionsVowel, noun1stGroupHardDeclensions, adjectiveHardMasculine, hryvnias, kopiykas}
 
 -- the classes of endings: those of долар, юань, рупія and єна, of a hard adjective, none for a noun that is not declined, and two nouns that
@@ -16,7 +18,7 @@ pub data Class : Type 0 where
   vowel1 : Class
   hard1 : Class
   adj : Class
-  fixed : Class
+  undeclined : Class
   hryvnia : Class
   kopiyka : Class
 
@@ -27,7 +29,7 @@ endings soft2 = noun2stGroupSoftDeclensions
 endings vowel1 = noun1stGroupSoftDeclensionsVowel
 endings hard1 = noun1stGroupHardDeclensions
 endings adj = adjectiveHardMasculine
-endings fixed = []
+endings undeclined = []
 endings hryvnia = hryvnias
 endings kopiyka = kopiykas
 
@@ -40,9 +42,9 @@ pub record Noun : Type 0 where
 abbrev pub noun : String → Class → Noun
 noun stem class = record { stem = stem; class = class }
 
--- the form of a word by grammatical number and case
-unfoldable pub formOf : Noun → ℕ → ℕ → Word
-formOf n number case = utf8 (n .stem) ++ form2 (endings (n .class)) number case
+-- the form of a word in a grammatical number and case
+unfoldable pub formOf : Settings → Noun → Word
+formOf S n = utf8 (n .stem) ++ form2 (endings (n .class)) (S .number) (S .case)
 
 -- the name of a unit: its gender, and its words, a noun or an adjective and a noun
 pub record Name : Type 0 where
@@ -50,15 +52,19 @@ pub record Name : Type 0 where
   pub words : List Noun
 
 -- a masculine noun as a name; a feminine one; a masculine adjective and noun
-abbrev pub masculine : String → Class → Name
-masculine stem class = record { gender = 0; words = noun stem class ∷ [] }
+abbrev pub he : String → Class → Name
+he stem class = record { gender = masculine; words = noun stem class ∷ [] }
 
-abbrev pub feminine : String → Class → Name
-feminine stem class = record { gender = 1; words = noun stem class ∷ [] }
+abbrev pub she : String → Class → Name
+she stem class = record { gender = feminine; words = noun stem class ∷ [] }
 
-abbrev pub masculine-pair : String → Class → String → Class → Name
-masculine-pair s c t d = record { gender = 0; words = noun s c ∷ noun t d ∷ [] }
+abbrev pub he-pair : String → Class → String → Class → Name
+he-pair s c t d = record { gender = masculine; words = noun s c ∷ noun t d ∷ [] }
 
--- the words of a name by grammatical number and case
-unfoldable pub nameForms : Name → ℕ → ℕ → List Word
-nameForms name number case = map (λ n. formOf n number case) (name .words)
+-- the words of a name in a grammatical number and case
+unfoldable pub nameForms : Settings → Name → List Word
+nameForms S name = map (λ n. formOf S n) (name .words)
+
+-- the name of a unit as it agrees with the count n: "agreement as above by the last two digits"
+unfoldable pub agreedName : Settings → Name → ℕ → List Word
+agreedName S name n = nameForms (agreed (n / 10 % 10) (n % 10) S) name

@@ -9,20 +9,22 @@ use lib.Dec.{eqb}
 use lib.ListN.{getD}
 use Rattle.base.specs.Join.{Word}
 use Rattle.base.specs.Utf8.{utf8, form2}
+use Rattle.base.specs.Same.{sameText}
 use Rattle.words.specs.Part.{part}
 use Rattle.uk.specs.Pool.{ukPool}
-use Rattle.uk_money.specs.Nouns.{Class, hard2, soft2, vowel1, hard1, adj, fixed, hryvnia, kopiyka, endings, Name, nameForms}
-use Rattle.uk_money.specs.Currencies.{Currency}
+use Rattle.uk_money.specs.Nouns.{Class, hard2, soft2, vowel1, hard1, adj, undeclined, hryvnia, kopiyka, endings, Name, he, nameForms}
+use Rattle.settings.specs.declared.Settings.{Settings}
+use Rattle.uk_money.specs.Currencies.{Currency, currency, currencies}
 
 -- the classes by their numbers
 abbrev pub classes : List Class
-classes = hard2 ∷ soft2 ∷ vowel1 ∷ hard1 ∷ adj ∷ fixed ∷ hryvnia ∷ kopiyka ∷ []
+classes = hard2 ∷ soft2 ∷ vowel1 ∷ hard1 ∷ adj ∷ undeclined ∷ hryvnia ∷ kopiyka ∷ []
 
 -- the class with this number
 abbrev pub classAt : ℕ → Class
 classAt k = getD classes k hard2
 
--- the adjective of a row by grammatical number and case, if it has one
+-- the adjective of a row in a grammatical number and case, if it has one
 abbrev pub adjectiveIn : ℕ → ℕ → ℕ → List Word
 adjectiveIn zero number case = []
 adjectiveIn (suc a) number case = (part ukPool (suc a) ++ form2 (endings adj) number case) ∷ []
@@ -36,9 +38,22 @@ formsIn row number case =
 -- the row has a name's gender and words, and its numbers are in their ranges
 pub record Row (name : Name) (row : List ℕ) : Type 0 where
   pub gender : name .gender ≡ getD row 3 0
-  pub forms : nameForms name ≡ formsIn row
+  pub forms : (S : Settings) → nameForms S name ≡ formsIn row (S .number) (S .case)
   pub classes : getD row 2 0 < 8
   pub genders : getD row 3 0 < 3
+
+-- the currency with a place in the list; what is past its end stands for none
+abbrev pub currencyAt : ℕ → Currency
+currencyAt place = getD currencies place (currency "" (he "" hard2) (he "" hard2))
+
+-- the place in a list of the currency with this code, from 0 on; the list's length where none has it
+unfoldable pub codePlaceIn : List Currency → List ℕ → ℕ
+codePlaceIn [] code = 0
+codePlaceIn (c ∷ cs) code = cond (sameText (utf8 (c .code)) code) 0 (suc (codePlaceIn cs code))
+
+-- the same among all 44
+abbrev pub codePlace : List ℕ → ℕ
+codePlace code = codePlaceIn currencies code
 
 -- a code as one number, its first byte the lowest, with a 1 above the last
 abbrev pub codeKey : List ℕ → ℕ

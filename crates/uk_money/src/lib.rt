@@ -2,6 +2,7 @@
 mod codes; // codes.rt: the 44 codes
 mod places; // places.rt: the nouns' tables, with the place of each text
 
+use settings::Settings;
 use uk::CASES;
 ghost use mathlib.Core.Path.{_≡_};
 ghost use Prim.Native.Nat.{_/_, _%_, _≤_, _<_};
@@ -9,11 +10,10 @@ ghost use lib.ListN.{length};
 ghost use Rattle.base.specs.Utf8.{form2};
 ghost use Rattle.words.specs.Part.{part};
 ghost use Rattle.uk.specs.Pool.{ukPool};
-ghost use Rattle.uk.specs.Ukrainian.{agreedNumber, agreedCase};
+ghost use Rattle.settings.specs.Settings.{ukrainianRanges, Within};
+ghost use Rattle.uk.specs.Ukrainian.{agreed as agreedOf};
 ghost use Rattle.uk_money.specs.Nouns.{endings};
-ghost use Rattle.uk_money.specs.Currencies.{currencyAt};
-ghost use Rattle.uk_money.specs.Codes.{placeOf};
-ghost use Rattle.uk_money.specs.Rows.{classAt, Row, codeKey};
+ghost use Rattle.uk_money.specs.Rows.{classAt, Row, currencyAt, codePlace, codeKey};
 
 // How many currencies there are; also what stands for none.
 pub const CURRENCIES: usize = 44;
@@ -38,7 +38,7 @@ fn code_key(code: &[u8]) -> u64
 
 // The place of the currency with this code, or CURRENCIES where it is no code.
 pub fn code_of(code: &[u8]) -> usize
-    ensures { λ r. ⌜ r ≡ placeOf (now (code .entry)) ⌝ }
+    ensures { λ r. ⌜ r ≡ codePlace (now (code .entry)) ⌝ }
 {
     if LONGEST < code.len() {
         return CURRENCIES;
@@ -63,12 +63,14 @@ pub fn fraction_row(currency: usize) -> [u16; 4]
 }
 
 // Where a form stands that agrees with a count that ends in these digits: singular, then plural, each by case.
-pub fn agreed(t: usize, u: usize, case: usize) -> usize
-    requires { ⌜ case < 6 ⌝ }
-    ensures { λ r. ⌜ (r < 12) × (r / 6 ≡ agreedNumber t u) × (r % 6 ≡ agreedCase t u case) ⌝ }
+pub fn agreed(t: usize, u: usize, settings: Settings) -> usize
+    requires { ⌜ Within (ukrainianRanges settings) ⌝ }
+    ensures { λ r. ⌜ (r < 12) × (r / 6 ≡ agreedOf t u settings .number) × (r % 6 ≡ agreedOf t u settings .case) ⌝ }
 {
-    let a = uk::agreement(case, t, u);
-    CASES * a.number + a.case
+    let a = uk::agreement(t, u, settings);
+    let number = a.number as usize;
+    let case = a.case as usize;
+    CASES * number + case
 }
 
 // The place of an ending, by class and where the form stands.

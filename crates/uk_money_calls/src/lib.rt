@@ -1,21 +1,32 @@
 // Ukrainian money from bytes to bytes, both ways: settings, code, text, sign, size and room are checked in 01's order. No phrase has more than
 // 12,320 bytes: the program keeps that much room for an answer.
 use base::Answer;
+use base::NO_SENTENCE;
+use base::WRONG_CODE;
+use base::WRONG_SETTING;
+use settings::Settings;
 use uk::ORDERS;
-use uk::Settings;
 use uk_money::CURRENCIES;
 use uk_money_plan::PLAN;
 use uk_money_read::Reading;
 ghost use Prim.Native.Nat.{_≤_, _<_};
-ghost use Rattle.base.specs.Answer.{fitted, replied, Answers, Reads as ReadsAs, ReadsUnless};
-ghost use Rattle.uk_money.specs.Currencies.{currencyAt};
-ghost use Rattle.uk_money.specs.Codes.{currencyOf};
-ghost use Rattle.uk_money_calls.specs.MoneyCalls.{Admitted, refusedCode, refusedAmount, moneyPhrase, Means};
+ghost use mathlib.Core.List.{[], _∷_};
+ghost use Rattle.base.specs.Answer.{firstOf, fitted, replied, Answers, Reads as ReadsAs, ReadsUnless};
+ghost use Rattle.settings.specs.Settings.{ukrainianSettings, ukrainianRanges, Within};
+ghost use Rattle.settings.specs.Refused.{outOfRange};
+ghost use Rattle.figures.specs.Money.{wholeOf, hundredthsOf};
+ghost use Rattle.figures.specs.Refusals.{amountRefusals, Admitted};
+ghost use Rattle.figures.specs.Value.{AmountMeans};
+ghost use Rattle.uk_money.specs.Rows.{currencyAt};
+ghost use Rattle.uk_money.specs.Codes.{currencyOf, unknown};
+ghost use Rattle.uk_money.specs.Money.{amountPhrase};
+ghost use Rattle.uk_money.specs.MoneyGrammar.{SaysMoney};
+ghost use Rattle.uk_money_calls.specs.MoneyCalls.{ukToCurrency, MoneyMeans};
 
 // The phrase of an admitted text: planned, measured, written.
 fn spell(settings: Settings, currency: usize, text: &[u8], out: &mut [u8]) -> Answer
-    requires { ⌜ (settings .case < 6) × (currency < 44) × Admitted (now text) ⌝ }
-    ensures { λ r. ⌜ Answers r (now (out .entry)) (now (out .exit)) (fitted (now (out .entry)) (moneyPhrase (currencyAt currency) (settings .case) (now (text .entry)))) ⌝ }
+    requires { ⌜ Within (ukrainianRanges settings) × (currency < 44) × Admitted (amountRefusals (now text)) ⌝ }
+    ensures { λ r. ⌜ Answers r (now (out .entry)) (now (out .exit)) (fitted (now (out .entry)) (amountPhrase settings (currencyAt currency) (wholeOf (now (text .entry))) (hundredthsOf (now (text .entry))))) ⌝ }
     ensures { λ r. ⌜ r .length ≤ 12320 ⌝ }
 {
     let whole = figures::money::whole_part(text);
@@ -31,14 +42,14 @@ fn spell(settings: Settings, currency: usize, text: &[u8], out: &mut [u8]) -> An
 
 // Any bytes, read under settings in their ranges for a currency.
 fn read(settings: Settings, currency: usize, said: &[u8], out: &mut [u8]) -> Answer
-    requires { ⌜ (settings .case < 6) × (currency < 44) ⌝ }
-    ensures { λ r. ⌜ ReadsAs (Means (currencyAt currency) (settings .case)) (now (said .entry)) r (now (out .entry)) (now (out .exit)) ⌝ }
+    requires { ⌜ Within (ukrainianRanges settings) × (currency < 44) ⌝ }
+    ensures { λ r. ⌜ ReadsAs (λ s. AmountMeans (SaysMoney settings (currencyAt currency) s)) (now (said .entry)) r (now (out .entry)) (now (out .exit)) ⌝ }
 {
     let mut gs = [0u16; ORDERS];
     let outcome = uk_money_read::read_money(settings, currency, said, &mut gs);
     let reading = outcome.reading;
     match reading {
-        Reading::Refused => base::refused(6),
+        Reading::Refused => base::refused(NO_SENTENCE),
         Reading::Amount(h) => numerals::money::put_money_text(outcome.orders, &gs, h, out),
     }
 }
@@ -52,22 +63,22 @@ pub fn to_currency(
     text: &[u8],
     out: &mut [u8],
 ) -> Answer
-    ensures { λ r. ⌜ Answers r (now (out .entry)) (now (out .exit)) (replied (refusedAmount gender number case (now (code .entry)) (now (text .entry))) (moneyPhrase (currencyOf (now (code .entry))) case (now (text .entry))) (now (out .entry))) ⌝ }
+    ensures { λ r. ⌜ Answers r (now (out .entry)) (now (out .exit)) (replied (ukToCurrency (ukrainianSettings gender number case) (now (code .entry)) (now (text .entry))) (now (out .entry))) ⌝ }
     ensures { λ r. ⌜ r .length ≤ 12320 ⌝ }
 {
-    if uk::in_range(gender, number, case) {
+    if settings::is_ukrainian(gender, number, case) {
         let currency = uk_money::code_of(code);
         if currency < CURRENCIES {
-            let n = figures::refusals::number_of(figures::refusals::judge_money(text));
+            let n = figures::refusals::number_of(figures::refusals::judge_amount(text));
             if n == 0 {
-                let settings = uk::settings_of(gender, number, case);
+                let settings = settings::ukrainian(gender, number, case);
                 return spell(settings, currency, text, out);
             }
             return base::refused(n);
         }
-        return base::refused(2);
+        return base::refused(WRONG_CODE);
     }
-    base::refused(1)
+    base::refused(WRONG_SETTING)
 }
 
 // The money text of an amount.
@@ -79,15 +90,15 @@ pub fn from_currency(
     said: &[u8],
     out: &mut [u8],
 ) -> Answer
-    ensures { λ r. ⌜ ReadsUnless (refusedCode gender number case (now (code .entry))) (Means (currencyOf (now (code .entry))) case) (now (said .entry)) r (now (out .entry)) (now (out .exit)) ⌝ }
+    ensures { λ r. ⌜ ReadsUnless (firstOf (outOfRange (ukrainianRanges (ukrainianSettings gender number case)) ∷ unknown (currencyOf (now (code .entry))) ∷ [])) (MoneyMeans (ukrainianSettings gender number case) (currencyOf (now (code .entry)))) (now (said .entry)) r (now (out .entry)) (now (out .exit)) ⌝ }
 {
-    if uk::in_range(gender, number, case) {
+    if settings::is_ukrainian(gender, number, case) {
         let currency = uk_money::code_of(code);
         if currency < CURRENCIES {
-            let settings = uk::settings_of(gender, number, case);
+            let settings = settings::ukrainian(gender, number, case);
             return read(settings, currency, said, out);
         }
-        return base::refused(2);
+        return base::refused(WRONG_CODE);
     }
-    base::refused(1)
+    base::refused(WRONG_SETTING)
 }

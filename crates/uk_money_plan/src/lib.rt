@@ -1,25 +1,25 @@
 // The plan of an amount of Ukrainian money, from the groups of its whole part, lowest order first, and its hundredths.
 use plan::push;
+use settings::Settings;
 use uk::ORDERS;
-use uk::Settings;
 use uk_plan::ON;
 use uk_plan::SPACE;
 ghost use mathlib.Core.Path.{_≡_};
-ghost use mathlib.Core.Bool.{false};
 ghost use mathlib.Core.List.{[], _∷_, _++_};
 ghost use Prim.Native.Nat.{_+_, _*_, _/_, _%_, _≤_, _<_};
 ghost use lib.ListN.{length, getD};
-ghost use Rattle.base.specs.Join.{joined};
+ghost use lib.Dec.{eqb};
+ghost use Rattle.settings.specs.Settings.{ukrainianRanges, Within};
+ghost use Rattle.figures.specs.Groups.{total, Groups};
 ghost use Rattle.groups.specs.Highest.{ZeroFrom};
 ghost use Rattle.words.specs.Part.{part};
 ghost use Rattle.plan.specs.Phrase.{phrase};
 ghost use Rattle.plan.specs.Plan.{says};
 ghost use Rattle.plan.specs.Speaks.{Told};
 ghost use Rattle.uk.specs.Pool.{ukPool};
-ghost use Rattle.uk_money.specs.Nouns.{Name};
-ghost use Rattle.uk_money.specs.Currencies.{currencyAt};
-ghost use Rattle.uk_money.specs.Money.{agreedName, countWords, moneyWords};
-ghost use Rattle.uk_money.specs.Rows.{adjectiveIn, Row};
+ghost use Rattle.uk_money.specs.Nouns.{Name, agreedName};
+ghost use Rattle.uk_money.specs.Money.{countWords, amountPhrase};
+ghost use Rattle.uk_money.specs.Rows.{adjectiveIn, Row, currencyAt};
 
 // How many pieces a plan has room for: no amount has more than five for each of seven groups and five for its noun, and ten for its hundredths.
 pub const PLAN: usize = 52;
@@ -54,11 +54,17 @@ fn say_adjective(stem: u16, place: usize, plan: &mut [u32], at: usize) -> usize
 }
 
 // The name of a row, as it agrees with the count n.
-fn say_name(row: &[u16; 4], case: usize, n: usize, plan: &mut [u32], at: usize) -> usize
-    requires { ⌜ (getD (now row) 2 0 < 8) × (case < 6) × (at + 4 ≤ length (now plan)) ⌝ }
-    ensures { λ r. ⌜ ((name : Name) → Row name (now (row .entry)) → Told ukPool 4 (now (plan .entry)) at (now (plan .exit)) r (agreedName name case n)) ⌝ }
+fn say_name(
+    row: &[u16; 4],
+    settings: Settings,
+    n: usize,
+    plan: &mut [u32],
+    at: usize,
+) -> usize
+    requires { ⌜ (getD (now row) 2 0 < 8) × Within (ukrainianRanges settings) × (at + 4 ≤ length (now plan)) ⌝ }
+    ensures { λ r. ⌜ ((name : Name) → Row name (now (row .entry)) → Told ukPool 4 (now (plan .entry)) at (now (plan .exit)) r (agreedName settings name n)) ⌝ }
 {
-    let place = uk_money::agreed(n / 10 % 10, n % 10, case);
+    let place = uk_money::agreed(n / 10 % 10, n % 10, settings);
     let k = say_adjective(row[0], place, plan, at);
     let class = row[2] as usize;
     say_form(row[1], uk_money::ending(class, place), plan, k)
@@ -67,28 +73,25 @@ fn say_name(row: &[u16; 4], case: usize, n: usize, plan: &mut [u32], at: usize) 
 // A count of n orders of the unit with this row: the cardinal and the name.
 fn say_count(
     row: &[u16; 4],
-    case: usize,
+    settings: Settings,
     zero: bool,
     n: usize,
     gs: &[u16; ORDERS],
     plan: &mut [u32],
     at: usize,
 ) -> usize
-    requires { ⌜ (getD (now row) 2 0 < 8) × (getD (now row) 3 0 < 3) × (case < 6) × (n ≤ 22) × ZeroFrom (now gs) n × (at + (5 * n + 5) ≤ length (now plan)) ⌝ }
-    ensures { λ r. ⌜ ((name : Name) → Row name (now (row .entry)) → Told ukPool (5 * n + 5) (now (plan .entry)) at (now (plan .exit)) r (countWords name case zero (now (gs .entry)))) ⌝ }
+    requires { ⌜ (getD (now row) 2 0 < 8) × (getD (now row) 3 0 < 3) × Within (ukrainianRanges settings) × (n ≤ 22) × ZeroFrom (now gs) n × (at + (5 * n + 5) ≤ length (now plan)) ⌝ }
+    requires { ⌜ Groups (now gs) × (length (now gs) ≡ 22) × (zero ≡ eqb (total (now gs)) 0) ⌝ }
+    ensures { λ r. ⌜ ((name : Name) → Row name (now (row .entry)) → Told ukPool (5 * n + 5) (now (plan .entry)) at (now (plan .exit)) r (countWords settings name (total (now (gs .entry))))) ⌝ }
 {
-    let settings = Settings {
-        gender: row[3] as usize,
-        number: 0,
-        case,
-    };
-    let k = uk_plan::say_cardinal(settings, zero, false, n, gs, plan, at);
-    say_name(row, case, base::wide_group(gs[0]), plan, k)
+    let counting = settings::in_gender(row[3] as u8, settings);
+    let k = uk_plan::say_cardinal(counting, zero, false, n, gs, plan, at);
+    say_name(row, settings, base::wide_group(gs[0]), plan, k)
 }
 
 // A count of a currency's main unit.
 fn say_main(
-    case: usize,
+    settings: Settings,
     currency: usize,
     zero: bool,
     n: usize,
@@ -96,26 +99,33 @@ fn say_main(
     plan: &mut [u32],
     at: usize,
 ) -> usize
-    requires { ⌜ (case < 6) × (currency < 44) × (n ≤ 22) × ZeroFrom (now gs) n × (at + (5 * n + 5) ≤ length (now plan)) ⌝ }
-    ensures { λ r. ⌜ Told ukPool (5 * n + 5) (now (plan .entry)) at (now (plan .exit)) r (countWords (currencyAt currency .main) case zero (now (gs .entry))) ⌝ }
+    requires { ⌜ Within (ukrainianRanges settings) × (currency < 44) × (n ≤ 22) × ZeroFrom (now gs) n × (at + (5 * n + 5) ≤ length (now plan)) ⌝ }
+    requires { ⌜ Groups (now gs) × (length (now gs) ≡ 22) × (zero ≡ eqb (total (now gs)) 0) ⌝ }
+    ensures { λ r. ⌜ Told ukPool (5 * n + 5) (now (plan .entry)) at (now (plan .exit)) r (countWords settings (currencyAt currency .main) (total (now (gs .entry)))) ⌝ }
 {
     let row = uk_money::main_row(currency);
-    say_count(&row, case, zero, n, gs, plan, at)
+    say_count(&row, settings, zero, n, gs, plan, at)
 }
 
 // A count of its fraction, above 0.
-fn say_fraction(case: usize, currency: usize, hundredths: u32, plan: &mut [u32], at: usize) -> usize
-    requires { ⌜ (case < 6) × (currency < 44) × (hundredths < 100) × (at + 10 ≤ length (now plan)) ⌝ }
-    ensures { λ r. ⌜ Told ukPool 10 (now (plan .entry)) at (now (plan .exit)) r (countWords (currencyAt currency .fraction) case false (hundredths ∷ [])) ⌝ }
+fn say_fraction(
+    settings: Settings,
+    currency: usize,
+    hundredths: u32,
+    plan: &mut [u32],
+    at: usize,
+) -> usize
+    requires { ⌜ Within (ukrainianRanges settings) × (currency < 44) × (0 < hundredths) × (hundredths < 100) × (at + 10 ≤ length (now plan)) ⌝ }
+    ensures { λ r. ⌜ Told ukPool 10 (now (plan .entry)) at (now (plan .exit)) r (countWords settings (currencyAt currency .fraction) hundredths) ⌝ }
 {
     let row = uk_money::fraction_row(currency);
     let mut gs = [0u16; ORDERS];
     gs[0] = hundredths as u16;
-    say_count(&row, case, false, 1, &gs, plan, at)
+    say_count(&row, settings, false, 1, &gs, plan, at)
 }
 
 // The plan of an amount under these settings, from its whole part, whether that is zero, its orders and its groups, and from its hundredths: it
-// says the amount's words, joined.
+// says the amount's phrase.
 pub fn plan_money(
     settings: Settings,
     currency: usize,
@@ -125,16 +135,16 @@ pub fn plan_money(
     hundredths: u32,
     plan: &mut [u32],
 ) -> usize
-    requires { ⌜ (settings .case < 6) × (currency < 44) × (n ≤ 7) × ZeroFrom (now gs) n × (hundredths < 100) × (50 ≤ length (now plan)) ⌝ }
-    ensures { λ r. ⌜ (r ≤ 50) × (phrase (says ukPool (now (plan .exit)) r) ≡ joined (moneyWords (currencyAt currency) (settings .case) zero (now (gs .entry)) hundredths)) ⌝ }
+    requires { ⌜ Within (ukrainianRanges settings) × (currency < 44) × (n ≤ 7) × ZeroFrom (now gs) n × (hundredths < 100) × (50 ≤ length (now plan)) ⌝ }
+    requires { ⌜ Groups (now gs) × (length (now gs) ≡ 22) × (zero ≡ eqb (total (now gs)) 0) ⌝ }
+    ensures { λ r. ⌜ (r ≤ 50) × (phrase (says ukPool (now (plan .exit)) r) ≡ amountPhrase settings (currencyAt currency) (total (now (gs .entry))) hundredths) ⌝ }
 {
-    let case = settings.case;
     if hundredths == 0 {
-        return say_main(case, currency, zero, n, gs, plan, 0);
+        return say_main(settings, currency, zero, n, gs, plan, 0);
     }
     if zero {
-        return say_fraction(case, currency, hundredths, plan, 0);
+        return say_fraction(settings, currency, hundredths, plan, 0);
     }
-    let k = say_main(case, currency, false, n, gs, plan, 0);
-    say_fraction(case, currency, hundredths, plan, k)
+    let k = say_main(settings, currency, false, n, gs, plan, 0);
+    say_fraction(settings, currency, hundredths, plan, k)
 }

@@ -5,22 +5,23 @@ use mathlib.Core.Path.{_≡_}
 use mathlib.Core.List.{List}
 use lib.ListN.{length}
 use Rattle.figures.specs.Groups.{total, Groups}
+use Rattle.settings.specs.declared.Settings.{Settings}
 use Rattle.uk_money.specs.Currencies.{Currency}
 use Rattle.uk_money.specs.MoneyGrammar.{SaysMoney}
 use Rattle.uk_money_read.specs.declared.Reading.{Reading}
 use Rattle.uk_money_read.specs.declared.Reading.the-variants.{Refused, Amount}
 
 -- 01's number of each answer; `Amount` has the hundredths
-abbrev pub numberOf : Reading → ℕ
-numberOf Refused = 6
-numberOf (Amount h) = 0
+abbrev pub readingNumber : Reading → ℕ
+readingNumber Refused = 6
+readingNumber (Amount h) = 0
 
 -- what the reader makes of the bytes s: its answer r, and the groups gs of the whole part
-pub record ReadMoney (c : Currency) (case : ℕ) (s : List ℕ) (r : Reading) (gs : List ℕ) : Type 0 where
+pub record ReadMoney (S : Settings) (c : Currency) (s : List ℕ) (r : Reading) (gs : List ℕ) : Type 0 where
   -- bytes that are an amount are read with the groups of its whole part and its hundredths
-  pub reads : (n h : ℕ) → SaysMoney c case s n h → (r ≡ Amount h) × (total gs ≡ n)
+  pub reads : (n h : ℕ) → SaysMoney S c s n h → (r ≡ Amount h) × (total gs ≡ n)
   -- bytes that are none are refused, with 6
-  pub refuses : ((n h : ℕ) → SaysMoney c case s n h → ⊥) → numberOf r ≡ 6
+  pub refuses : ((n h : ℕ) → SaysMoney S c s n h → ⊥) → readingNumber r ≡ 6
   -- 22 groups, and groups and hundredths in their ranges
   pub size : length gs ≡ 22
   pub groups : Groups gs

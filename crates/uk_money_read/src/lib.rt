@@ -1,8 +1,8 @@
 // The reader of Ukrainian money. It takes any bytes word by word, makes a whole part of the number words before the first noun and hundredths
 // of those after it, and compares the words that these have under the settings, planned as the speller plans them, with the bytes; then the
 // same for hundredths alone.
+use settings::Settings;
 use uk::ORDERS;
-use uk::Settings;
 use uk_money_plan::PLAN;
 ghost use mathlib.Core.Path.{_≡_};
 ghost use mathlib.Core.Bool.{true};
@@ -10,14 +10,14 @@ ghost use Prim.Native.Nat.{_+_, _*_, _≤_, _<_};
 ghost use lib.Dec.{eqb, leb};
 ghost use lib.ListN.{length, getD, drop, replicate};
 ghost use Rattle.base.specs.Decides.{Decides};
-ghost use Rattle.base.specs.Join.{joined};
+ghost use Rattle.settings.specs.Settings.{ukrainianRanges, Within};
 ghost use Rattle.figures.specs.Groups.{total, Groups};
 ghost use Rattle.figures.specs.Money.{moneyLimit};
 ghost use Rattle.groups.specs.Highest.{ZeroFrom, Highest};
 ghost use Rattle.tokens.specs.Tokens.{split};
 ghost use Rattle.uk_read.specs.Reading.{sums};
-ghost use Rattle.uk_money.specs.Currencies.{currencyAt};
-ghost use Rattle.uk_money.specs.Money.{moneyWords};
+ghost use Rattle.uk_money.specs.Rows.{currencyAt};
+ghost use Rattle.uk_money.specs.Money.{amountPhrase};
 ghost use Rattle.uk_money_read.specs.Behind.{behind};
 ghost use Rattle.uk_money_read.specs.Promise.{ReadMoney};
 
@@ -104,8 +104,9 @@ fn is_phrase(
     hundredths: u32,
     s: &[u8],
 ) -> bool
-    requires { ⌜ (settings .case < 6) × (currency < 44) × (n ≤ 7) × ZeroFrom (now gs) n × (hundredths < 100) ⌝ }
-    ensures { λ r. ⌜ Decides r (joined (moneyWords (currencyAt currency) (settings .case) (eqb n 0) (now (gs .entry)) hundredths) ≡ now (s .entry)) ⌝ }
+    requires { ⌜ Within (ukrainianRanges settings) × (currency < 44) × (n ≤ 7) × ZeroFrom (now gs) n × (hundredths < 100) ⌝ }
+    requires { ⌜ Groups (now gs) × (length (now gs) ≡ 22) × (eqb n 0 ≡ eqb (total (now gs)) 0) ⌝ }
+    ensures { λ r. ⌜ Decides r (amountPhrase settings (currencyAt currency) (total (now (gs .entry))) hundredths ≡ now (s .entry)) ⌝ }
 {
     let mut plan = [0u32; PLAN];
     let k = uk_money_plan::plan_money(settings, currency, n == 0, n, gs, hundredths, &mut plan);
@@ -121,9 +122,9 @@ fn is_amount(
     hundredths: u32,
     s: &[u8],
 ) -> bool
-    requires { ⌜ (settings .case < 6) × (currency < 44) × Groups (now gs) × (length (now gs) ≡ 22) ⌝ }
+    requires { ⌜ Within (ukrainianRanges settings) × (currency < 44) × Groups (now gs) × (length (now gs) ≡ 22) ⌝ }
     requires { ⌜ Highest (now gs) n × (eqb n 0 ≡ eqb (total (now gs)) 0) ⌝ }
-    ensures { λ r. ⌜ Decides r ((total (now (gs .entry)) ≤ moneyLimit) × (hundredths < 100) × (joined (moneyWords (currencyAt currency) (settings .case) (eqb (total (now (gs .entry))) 0) (now (gs .entry)) hundredths) ≡ now (s .entry))) ⌝ }
+    ensures { λ r. ⌜ Decides r ((total (now (gs .entry)) ≤ moneyLimit) × (hundredths < 100) × (amountPhrase settings (currencyAt currency) (total (now (gs .entry))) hundredths ≡ now (s .entry))) ⌝ }
 {
     if MOST < hundredths {
         return false;
@@ -137,8 +138,8 @@ fn is_amount(
 
 // Any bytes, under these settings and for a currency: what they are by the grammar, with the groups of the whole part in out.
 pub fn read_money(settings: Settings, currency: usize, s: &[u8], out: &mut [u16; ORDERS]) -> Outcome
-    requires { ⌜ (settings .case < 6) × (currency < 44) × (now out ≡ replicate 22 0) ⌝ }
-    ensures { λ r. ⌜ ReadMoney (currencyAt currency) (settings .case) (now (s .entry)) (r .reading) (now (out .exit)) ⌝ }
+    requires { ⌜ Within (ukrainianRanges settings) × (currency < 44) × (now out ≡ replicate 22 0) ⌝ }
+    ensures { λ r. ⌜ ReadMoney settings (currencyAt currency) (now (s .entry)) (r .reading) (now (out .exit)) ⌝ }
     ensures { λ r. ⌜ Highest (now (out .exit)) (r .orders) ⌝ }
 {
     let span = uk_read::groups(ORDERS, s, out);

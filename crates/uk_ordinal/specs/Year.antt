@@ -1,11 +1,13 @@
 -- The words of a year (01, "Ukrainian ordinals, years, codes").
 -- Assumes nothing.
 use Prim.Native.Nat.{ℕ, zero, suc}
-use mathlib.Core.Bool.{Bool, true, false, cond}
+use mathlib.Core.Bool.{Bool, true, false}
 use mathlib.Core.List.{List, [], _∷_, _++_}
-use lib.IntN.{ℤ, pos, negsuc}
+use lib.IntN.{ℤ, pos, negsuc, natAbs}
 use Rattle.base.specs.Join.{Word}
 use Rattle.base.specs.Utf8.{utf8, form2}
+use Rattle.settings.specs.Settings.{masculine, inGender}
+use Rattle.settings.specs.declared.Settings.{Settings}
 use Rattle.uk_ordinal.specs.OrdinalTables.{year}
 use Rattle.uk_ordinal.specs.Ordinal.{ordinalWords}
 
@@ -15,11 +17,15 @@ early (pos zero) = true
 early (pos (suc n)) = false
 early (negsuc n) = true
 
--- what these years "add"
+-- what early years "add", and others do not
 abbrev pub eraWords : Bool → List Word
-eraWords isEarly = cond isEarly (utf8 "до" ∷ utf8 "н.е." ∷ []) []
+eraWords true = utf8 "до" ∷ utf8 "н.е." ∷ []
+eraWords false = []
 
--- "masculine ordinal of the magnitude, a space, then YEAR by grammatical number and case": gs are the groups of the magnitude, and
--- the Bool is whether the year is early
-unfoldable pub yearWords : ℕ → ℕ → Bool → List ℕ → List Word
-yearWords number case isEarly gs = ordinalWords 0 number case gs ++ (form2 year number case ∷ eraWords isEarly)
+-- "`YEAR` by grammatical number and case"
+unfoldable pub yearNoun : Settings → Word
+yearNoun S = form2 year (S .number) (S .case)
+
+-- "masculine ordinal of the magnitude, a space, then `YEAR`"
+unfoldable pub yearWords : Settings → ℤ → List Word
+yearWords S y = ordinalWords (inGender masculine S) (natAbs y) ++ (yearNoun S ∷ eraWords (early y))

@@ -3,18 +3,24 @@
 mod places; // places.rt: the tables of uk.rs, with the place of each text
 mod pool; // pool.rt: the endings of digit ordinals, which have a pool of their own, so that all texts need not be made for one of them
 
-use uk::Settings;
+use settings::MASCULINE;
+use settings::NOMINATIVE;
+use settings::GENITIVE;
+use settings::SINGULAR;
+use settings::Settings;
 ghost use mathlib.Core.Path.{_≡_};
 ghost use mathlib.Core.Bool.{true, false};
 ghost use Prim.Native.Nat.{_-_, _≤_, _<_};
 ghost use lib.ListN.{length};
 ghost use Rattle.base.specs.Buffer.{over};
-ghost use Rattle.base.specs.Utf8.{utf8, form1, form2};
+ghost use Rattle.base.specs.Utf8.{utf8, form1};
 ghost use Rattle.words.specs.Part.{part};
+ghost use Rattle.settings.specs.Settings.{ukrainianRanges, Within};
 ghost use Rattle.uk.specs.Pool.{ukPool};
 ghost use Rattle.uk_ordinal.specs.Pool.{shortPool};
-ghost use Rattle.uk_ordinal.specs.OrdinalTables.{ordinalZeroBase, oneBase, hundredBase, ordinalUnitBases, ordinalTensBases, year};
-ghost use Rattle.uk_ordinal.specs.Ordinal.{soft as softOf, flexion};
+ghost use Rattle.uk_ordinal.specs.OrdinalTables.{ordinalZeroBase, oneBase, hundredBase, ordinalUnitBases, ordinalTensBases};
+ghost use Rattle.uk_ordinal.specs.Ordinal.{soft as softOf, flexion, inNominative, inGenitive};
+ghost use Rattle.uk_ordinal.specs.Year.{yearNoun};
 ghost use Rattle.uk_ordinal.specs.DigitOrdinal.{shortFlexion};
 
 // The base of zero, of 1 in a compound, and of a round hundred.
@@ -56,6 +62,24 @@ pub fn our_era() -> u16
     places::OUR_ERA
 }
 
+// The settings of the words before the one that carries the ending.
+pub fn in_nominative(settings: Settings) -> Settings
+    requires { ⌜ Within (ukrainianRanges settings) ⌝ }
+    ensures { λ r. ⌜ (r ≡ inNominative settings) × Within (ukrainianRanges r) ⌝ }
+{
+    let form = settings::in_form(settings.number, NOMINATIVE, settings);
+    settings::in_gender(MASCULINE, form)
+}
+
+// The settings of the words of a compound.
+pub fn in_genitive(settings: Settings) -> Settings
+    requires { ⌜ Within (ukrainianRanges settings) ⌝ }
+    ensures { λ r. ⌜ (r ≡ inGenitive settings) × Within (ukrainianRanges r) ⌝ }
+{
+    let form = settings::in_form(settings.number, GENITIVE, settings);
+    settings::in_gender(MASCULINE, form)
+}
+
 // Whether the ordinal of a number with these last two digits has a soft ending.
 pub fn is_soft(n: u16) -> bool
     ensures { λ r. ⌜ r ≡ softOf n ⌝ }
@@ -65,12 +89,12 @@ pub fn is_soft(n: u16) -> bool
 
 // A hard ending.
 fn hard_ending(settings: Settings) -> u16
-    requires { ⌜ (settings .gender < 3) × (settings .number < 2) × (settings .case < 6) ⌝ }
-    ensures { λ r. ⌜ part ukPool r ≡ flexion false (settings .gender) (settings .number) (settings .case) ⌝ }
+    requires { ⌜ Within (ukrainianRanges settings) ⌝ }
+    ensures { λ r. ⌜ part ukPool r ≡ flexion settings false ⌝ }
 {
-    let case = settings.case;
-    let gender = settings.gender;
-    if settings.number == 0 {
+    let case = settings.case as usize;
+    let gender = settings.gender as usize;
+    if settings.number == SINGULAR {
         return places::ADJECTIVE_HARD_FLEXIONS_SINGULAR[gender][case];
     }
     places::ADJECTIVE_HARD_FLEXIONS_PLURAL[case]
@@ -78,21 +102,21 @@ fn hard_ending(settings: Settings) -> u16
 
 // A soft ending.
 fn soft_ending(settings: Settings) -> u16
-    requires { ⌜ (settings .gender < 3) × (settings .number < 2) × (settings .case < 6) ⌝ }
-    ensures { λ r. ⌜ part ukPool r ≡ flexion true (settings .gender) (settings .number) (settings .case) ⌝ }
+    requires { ⌜ Within (ukrainianRanges settings) ⌝ }
+    ensures { λ r. ⌜ part ukPool r ≡ flexion settings true ⌝ }
 {
-    let case = settings.case;
-    let gender = settings.gender;
-    if settings.number == 0 {
+    let case = settings.case as usize;
+    let gender = settings.gender as usize;
+    if settings.number == SINGULAR {
         return places::ADJECTIVE_SOFT_FLEXIONS_SINGULAR[gender][case];
     }
     places::ADJECTIVE_SOFT_FLEXIONS_PLURAL[case]
 }
 
 // The ending of an ordinal.
-pub fn ending(soft: bool, settings: Settings) -> u16
-    requires { ⌜ (settings .gender < 3) × (settings .number < 2) × (settings .case < 6) ⌝ }
-    ensures { λ r. ⌜ part ukPool r ≡ flexion soft (settings .gender) (settings .number) (settings .case) ⌝ }
+pub fn ending(settings: Settings, soft: bool) -> u16
+    requires { ⌜ Within (ukrainianRanges settings) ⌝ }
+    ensures { λ r. ⌜ part ukPool r ≡ flexion settings soft ⌝ }
 {
     if soft {
         return soft_ending(settings);
@@ -101,13 +125,13 @@ pub fn ending(soft: bool, settings: Settings) -> u16
 }
 
 // The ending of a digit ordinal: a place in the pool of these endings.
-pub fn short_ending(soft: bool, settings: Settings) -> u16
-    requires { ⌜ (settings .gender < 3) × (settings .number < 2) × (settings .case < 6) ⌝ }
-    ensures { λ r. ⌜ part shortPool r ≡ shortFlexion soft (settings .gender) (settings .number) (settings .case) ⌝ }
+pub fn short_ending(settings: Settings, soft: bool) -> u16
+    requires { ⌜ Within (ukrainianRanges settings) ⌝ }
+    ensures { λ r. ⌜ part shortPool r ≡ shortFlexion settings soft ⌝ }
 {
-    let case = settings.case;
-    let gender = settings.gender;
-    if settings.number == 0 {
+    let case = settings.case as usize;
+    let gender = settings.gender as usize;
+    if settings.number == SINGULAR {
         if soft {
             return places::ORDINAL_SOFT_FLEXIONS_SINGULAR_SHORT[gender][case];
         }
@@ -142,11 +166,11 @@ pub fn put_short(place: u16, out: &mut [u8]) -> usize
 
 // The years' noun.
 pub fn year_word(settings: Settings) -> u16
-    requires { ⌜ (settings .number < 2) × (settings .case < 6) ⌝ }
-    ensures { λ r. ⌜ part ukPool r ≡ form2 year (settings .number) (settings .case) ⌝ }
+    requires { ⌜ Within (ukrainianRanges settings) ⌝ }
+    ensures { λ r. ⌜ part ukPool r ≡ yearNoun settings ⌝ }
 {
-    let case = settings.case;
-    let i = settings.number;
+    let case = settings.case as usize;
+    let i = settings.number as usize;
     places::YEAR[i][case]
 }
 

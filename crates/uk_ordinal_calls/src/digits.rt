@@ -1,6 +1,7 @@
 // Digit ordinals: the text's own digits, a hyphen and an ending. They need no plan, since all but the ending stands in the text.
 use base::Answer;
-use uk::Settings;
+use base::NO_ROOM;
+use settings::Settings;
 ghost use mathlib.Core.Path.{_≡_};
 ghost use mathlib.Core.Bool.{true};
 ghost use mathlib.Core.List.{_∷_, _++_};
@@ -8,6 +9,7 @@ ghost use Prim.Native.Nat.{_≤_, _<_};
 ghost use lib.ListN.{length};
 ghost use Rattle.base.specs.Buffer.{over};
 ghost use Rattle.base.specs.Answer.{fitted, Answers};
+ghost use Rattle.settings.specs.Settings.{ukrainianRanges, Within};
 ghost use Rattle.words.specs.Part.{part};
 ghost use Rattle.uk_ordinal.specs.Pool.{shortPool};
 ghost use Rattle.figures.specs.Text.{digits, value};
@@ -46,17 +48,17 @@ fn put(text: &[u8], ending: u16, out: &mut [u8]) -> usize
 
 // The digit ordinal of an admitted text, written where out holds it. It is measured first where out might not: no ending has 40 bytes.
 pub fn say(settings: Settings, text: &[u8], out: &mut [u8]) -> Answer
-    requires { ⌜ ((settings .gender < 3) × (settings .number < 2) × (settings .case < 6)) × (digits (now text) ≡ true) × (0 < length (now text)) × (length (now text) ≤ 39) ⌝ }
-    ensures { λ r. ⌜ Answers r (now (out .entry)) (now (out .exit)) (fitted (now (out .entry)) (digitOrdinal (settings .gender) (settings .number) (settings .case) (now (text .entry)))) ⌝ }
+    requires { ⌜ Within (ukrainianRanges settings) × (digits (now text) ≡ true) × (0 < length (now text)) × (length (now text) ≤ 39) ⌝ }
+    ensures { λ r. ⌜ Answers r (now (out .entry)) (now (out .exit)) (fitted (now (out .entry)) (digitOrdinal settings (now (text .entry)))) ⌝ }
     ensures { λ r. ⌜ r .length ≤ 12320 ⌝ }
 {
-    let ending = uk_ordinal::short_ending(is_soft(text), settings);
+    let ending = uk_ordinal::short_ending(settings, is_soft(text));
     let n = text.len() + 1;
     if out.len() < n + LONGER {
         let size = n + uk_ordinal::short_len(ending);
         if out.len() < size {
             return Answer {
-                number: 7,
+                number: NO_ROOM,
                 length: size,
             };
         }

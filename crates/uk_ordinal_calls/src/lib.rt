@@ -3,9 +3,10 @@
 mod digits; // digits.rt: digit ordinals
 
 use base::Answer;
+use base::WRONG_SETTING;
+use settings::Settings;
 use uk::DIGITS;
 use uk::ORDERS;
-use uk::Settings;
 use uk_ordinal_plan::PLAN;
 use uk_ordinal_plan::YEAR_PLAN;
 ghost use mathlib.Core.Path.{_≡_};
@@ -14,10 +15,9 @@ ghost use Prim.Native.Nat.{_≤_, _<_};
 ghost use lib.ListN.{length};
 ghost use Rattle.base.specs.Answer.{fitted, replied, Answers};
 ghost use Rattle.figures.specs.Text.{plain};
-ghost use Rattle.uk.specs.Settings.{unlessSettings};
-ghost use Rattle.uk_ordinal.specs.DigitOrdinal.{digitOrdinal};
+ghost use Rattle.settings.specs.Settings.{ukrainianSettings, ukrainianRanges, Within};
 ghost use Rattle.uk_ordinal.specs.Year.{early};
-ghost use Rattle.uk_ordinal_calls.specs.Calls.{refusedOrdinal, refusedDigitOrdinal, ordinalPhrase, yearPhrase};
+ghost use Rattle.uk_ordinal_calls.specs.UkOrdinals.{ukToOrdinal, ukToOrdinalNum, ukToYear};
 
 // Whether a year is 0 or below.
 fn is_early(year: i64) -> bool
@@ -28,30 +28,30 @@ fn is_early(year: i64) -> bool
 
 // The refusal of an ordinal's settings and text, 0 for none.
 fn refuse_ordinal(gender: u32, number: u32, case: u32, text: &[u8]) -> u32
-    ensures { λ r. ⌜ r ≡ unlessSettings gender number case (refusedOrdinal (now (text .entry))) ⌝ }
+    ensures { λ r. ⌜ r ≡ ukToOrdinal (ukrainianSettings gender number case) (now (text .entry)) .refusal ⌝ }
 {
-    if uk::in_range(gender, number, case) {
-        figures::refusals::number_of(figures::refusals::judge(text, false, DIGITS))
+    if settings::is_ukrainian(gender, number, case) {
+        figures::refusals::number_of(figures::refusals::judge_ordinal(text, DIGITS))
     } else {
-        1
+        WRONG_SETTING
     }
 }
 
 // The refusal of a digit ordinal's settings and text, 0 for none.
 fn refuse_digit_ordinal(gender: u32, number: u32, case: u32, text: &[u8]) -> u32
-    ensures { λ r. ⌜ r ≡ unlessSettings gender number case (refusedDigitOrdinal (now (text .entry))) ⌝ }
+    ensures { λ r. ⌜ r ≡ ukToOrdinalNum (ukrainianSettings gender number case) (now (text .entry)) .refusal ⌝ }
 {
-    if uk::in_range(gender, number, case) {
+    if settings::is_ukrainian(gender, number, case) {
         figures::refusals::number_of(figures::refusals::judge_digit_ordinal(text))
     } else {
-        1
+        WRONG_SETTING
     }
 }
 
 // The ordinal of an admitted text.
 fn say_ordinal(settings: Settings, text: &[u8], out: &mut [u8]) -> Answer
-    requires { ⌜ ((settings .gender < 3) × (settings .number < 2) × (settings .case < 6)) × (plain (now text) ≡ true) × (length (now text) ≤ 66) ⌝ }
-    ensures { λ r. ⌜ Answers r (now (out .entry)) (now (out .exit)) (fitted (now (out .entry)) (ordinalPhrase (settings .gender) (settings .number) (settings .case) (now (text .entry)))) ⌝ }
+    requires { ⌜ Within (ukrainianRanges settings) × (plain (now text) ≡ true) × (length (now text) ≤ 66) ⌝ }
+    ensures { λ r. ⌜ Answers r (now (out .entry)) (now (out .exit)) (fitted (now (out .entry)) (ukToOrdinal settings (now (text .entry)) .phrase)) ⌝ }
     ensures { λ r. ⌜ r .length ≤ 12320 ⌝ }
 {
     let gs = groups::groups22(text);
@@ -62,8 +62,8 @@ fn say_ordinal(settings: Settings, text: &[u8], out: &mut [u8]) -> Answer
 
 // A year.
 fn say_year(settings: Settings, year: i64, out: &mut [u8]) -> Answer
-    requires { ⌜ (settings .gender < 3) × (settings .number < 2) × (settings .case < 6) ⌝ }
-    ensures { λ r. ⌜ Answers r (now (out .entry)) (now (out .exit)) (fitted (now (out .entry)) (yearPhrase (settings .number) (settings .case) year)) ⌝ }
+    requires { ⌜ Within (ukrainianRanges settings) ⌝ }
+    ensures { λ r. ⌜ Answers r (now (out .entry)) (now (out .exit)) (fitted (now (out .entry)) (ukToYear settings year .phrase)) ⌝ }
     ensures { λ r. ⌜ r .length ≤ 12320 ⌝ }
 {
     let mut gs = [0u16; ORDERS];
@@ -75,12 +75,12 @@ fn say_year(settings: Settings, year: i64, out: &mut [u8]) -> Answer
 
 // The ordinal of a number text.
 pub fn to_ordinal(gender: u32, number: u32, case: u32, text: &[u8], out: &mut [u8]) -> Answer
-    ensures { λ r. ⌜ Answers r (now (out .entry)) (now (out .exit)) (replied (unlessSettings gender number case (refusedOrdinal (now (text .entry)))) (ordinalPhrase gender number case (now (text .entry))) (now (out .entry))) ⌝ }
+    ensures { λ r. ⌜ Answers r (now (out .entry)) (now (out .exit)) (replied (ukToOrdinal (ukrainianSettings gender number case) (now (text .entry))) (now (out .entry))) ⌝ }
     ensures { λ r. ⌜ r .length ≤ 12320 ⌝ }
 {
     let n = refuse_ordinal(gender, number, case, text);
     if n == 0 {
-        say_ordinal(uk::settings_of(gender, number, case), text, out)
+        say_ordinal(settings::ukrainian(gender, number, case), text, out)
     } else {
         base::refused(n)
     }
@@ -88,12 +88,12 @@ pub fn to_ordinal(gender: u32, number: u32, case: u32, text: &[u8], out: &mut [u
 
 // The digit ordinal of a number text.
 pub fn to_ordinal_num(gender: u32, number: u32, case: u32, text: &[u8], out: &mut [u8]) -> Answer
-    ensures { λ r. ⌜ Answers r (now (out .entry)) (now (out .exit)) (replied (unlessSettings gender number case (refusedDigitOrdinal (now (text .entry)))) (digitOrdinal gender number case (now (text .entry))) (now (out .entry))) ⌝ }
+    ensures { λ r. ⌜ Answers r (now (out .entry)) (now (out .exit)) (replied (ukToOrdinalNum (ukrainianSettings gender number case) (now (text .entry))) (now (out .entry))) ⌝ }
     ensures { λ r. ⌜ r .length ≤ 12320 ⌝ }
 {
     let n = refuse_digit_ordinal(gender, number, case, text);
     if n == 0 {
-        digits::say(uk::settings_of(gender, number, case), text, out)
+        digits::say(settings::ukrainian(gender, number, case), text, out)
     } else {
         base::refused(n)
     }
@@ -101,12 +101,12 @@ pub fn to_ordinal_num(gender: u32, number: u32, case: u32, text: &[u8], out: &mu
 
 // The phrase of a year.
 pub fn to_year(gender: u32, number: u32, case: u32, year: i64, out: &mut [u8]) -> Answer
-    ensures { λ r. ⌜ Answers r (now (out .entry)) (now (out .exit)) (replied (unlessSettings gender number case 0) (yearPhrase number case year) (now (out .entry))) ⌝ }
+    ensures { λ r. ⌜ Answers r (now (out .entry)) (now (out .exit)) (replied (ukToYear (ukrainianSettings gender number case) year) (now (out .entry))) ⌝ }
     ensures { λ r. ⌜ r .length ≤ 12320 ⌝ }
 {
-    if uk::in_range(gender, number, case) {
-        say_year(uk::settings_of(gender, number, case), year, out)
+    if settings::is_ukrainian(gender, number, case) {
+        say_year(settings::ukrainian(gender, number, case), year, out)
     } else {
-        base::refused(1)
+        base::refused(WRONG_SETTING)
     }
 }

@@ -1,30 +1,27 @@
 // The lowest group above order 0: one word, run together from what counts the scale, the scale's base, н and the ending.
 use plan::push;
+use settings::Settings;
 use uk_plan::ON;
 use uk_plan::SPACE;
 ghost use mathlib.Core.Path.{_≡_};
 ghost use mathlib.Core.Bool.{_&&_};
 ghost use mathlib.Core.List.{[], _∷_};
-ghost use Prim.Native.Nat.{_+_, _-_, _≤_, _<_};
+ghost use Prim.Native.Nat.{ℕ, _+_, _-_, _≤_, _<_};
 ghost use lib.Dec.{eqb};
 ghost use lib.ListN.{length};
+ghost use Rattle.settings.specs.Settings.{ukrainianRanges, Within};
 ghost use Rattle.base.specs.Utf8.{utf8, form1};
 ghost use Rattle.words.specs.Part.{part};
 ghost use Rattle.uk.specs.Pool.{ukPool};
 ghost use Rattle.uk.specs.UkTables.{megaBases};
 ghost use Rattle.uk.specs.Rules.{opt, lowWords, numWords};
-ghost use Rattle.uk_ordinal.specs.Ordinal.{compounds, scaleWord};
+ghost use Rattle.uk_ordinal.specs.Ordinal.{inGenitive, compoundDigits, compoundWord};
 ghost use Rattle.uk_ordinal_plan.specs.Said.{Ran, Spoken};
 
-// The gender and the case of a compound's words.
-const MASCULINE: usize = 0;
-
-const GENITIVE: usize = 1;
-
 // A compound's unit, if any; what is said begins with the separator.
-fn count_unit(u: usize, separator: u8, plan: &mut [u32], at: usize) -> usize
-    requires { ⌜ (u < 10) × (at < length (now plan)) ⌝ }
-    ensures { λ r. ⌜ Ran ukPool separator 1 (now (plan .entry)) at (now (plan .exit)) r (opt (compounds .unit 0) u) ⌝ }
+fn count_unit(settings: Settings, u: usize, separator: u8, plan: &mut [u32], at: usize) -> usize
+    requires { ⌜ Within (ukrainianRanges settings) × (u < 10) × (at < length (now plan)) ⌝ }
+    ensures { λ r. ⌜ Ran ukPool separator 1 (now (plan .entry)) at (now (plan .exit)) r (opt (compoundDigits settings .unit) u) ⌝ }
 {
     if u == 0 {
         return at;
@@ -32,35 +29,42 @@ fn count_unit(u: usize, separator: u8, plan: &mut [u32], at: usize) -> usize
     if u == 1 {
         return push(plan, at, separator, uk_ordinal::one_base());
     }
-    push(plan, at, separator, uk::unit(MASCULINE, GENITIVE, u))
+    push(plan, at, separator, uk::unit(uk_ordinal::in_genitive(settings), u))
 }
 
 // A compound's teen, or its tens if any and its unit if any.
-fn count_low(t: usize, u: usize, separator: u8, plan: &mut [u32], at: usize) -> usize
-    requires { ⌜ (t < 10) × (u < 10) × (at + 2 ≤ length (now plan)) ⌝ }
-    ensures { λ r. ⌜ Ran ukPool separator 2 (now (plan .entry)) at (now (plan .exit)) r (lowWords compounds 0 t u) ⌝ }
+fn count_low(
+    settings: Settings,
+    t: usize,
+    u: usize,
+    separator: u8,
+    plan: &mut [u32],
+    at: usize,
+) -> usize
+    requires { ⌜ Within (ukrainianRanges settings) × (t < 10) × (u < 10) × (at + 2 ≤ length (now plan)) ⌝ }
+    ensures { λ r. ⌜ Ran ukPool separator 2 (now (plan .entry)) at (now (plan .exit)) r (lowWords (compoundDigits settings) t u) ⌝ }
 {
     if t == 0 {
-        return count_unit(u, separator, plan, at);
+        return count_unit(settings, u, separator, plan, at);
     }
     if t == 1 {
         let k = push(plan, at, separator, uk::teen(u));
-        return push(plan, k, ON, uk::teen_ending(GENITIVE));
+        return push(plan, k, ON, uk::teen_ending(uk_ordinal::in_genitive(settings)));
     }
-    let k = push(plan, at, separator, uk::ten(GENITIVE, t));
-    count_unit(u, ON, plan, k)
+    let k = push(plan, at, separator, uk::ten(uk_ordinal::in_genitive(settings), t));
+    count_unit(settings, u, ON, plan, k)
 }
 
 // What counts a scale in a compound.
-fn count(h: usize, t: usize, u: usize, plan: &mut [u32], at: usize) -> usize
-    requires { ⌜ (h < 10) × (t < 10) × (u < 10) × (at + 3 ≤ length (now plan)) ⌝ }
-    ensures { λ r. ⌜ Ran ukPool 32 3 (now (plan .entry)) at (now (plan .exit)) r (numWords compounds 0 h t u) ⌝ }
+fn count(settings: Settings, h: usize, t: usize, u: usize, plan: &mut [u32], at: usize) -> usize
+    requires { ⌜ Within (ukrainianRanges settings) × (h < 10) × (t < 10) × (u < 10) × (at + 3 ≤ length (now plan)) ⌝ }
+    ensures { λ r. ⌜ Ran ukPool 32 3 (now (plan .entry)) at (now (plan .exit)) r (numWords (compoundDigits settings) h t u) ⌝ }
 {
     if h == 0 {
-        return count_low(t, u, SPACE, plan, at);
+        return count_low(settings, t, u, SPACE, plan, at);
     }
-    let k = push(plan, at, SPACE, uk::hundred(GENITIVE, h));
-    count_low(t, u, ON, plan, k)
+    let k = push(plan, at, SPACE, uk::hundred(uk_ordinal::in_genitive(settings), h));
+    count_low(settings, t, u, ON, plan, k)
 }
 
 // The base of a scale, its adjective's н, and the ending.
@@ -82,6 +86,7 @@ fn is_bare(lone: bool, g: usize) -> bool
 
 // The lowest group above order 0: one word.
 pub fn scale_word(
+    settings: Settings,
     order: usize,
     g: usize,
     lone: bool,
@@ -89,12 +94,12 @@ pub fn scale_word(
     plan: &mut [u32],
     at: usize,
 ) -> usize
-    requires { ⌜ (0 < order) × (order < 22) × (0 < g) × (g < 1000) × (at + 6 ≤ length (now plan)) ⌝ }
-    ensures { λ r. ⌜ Spoken ukPool 6 (now (plan .entry)) at (now (plan .exit)) r (scaleWord (part ukPool ending) lone order g ∷ []) ⌝ }
+    requires { ⌜ Within (ukrainianRanges settings) × (0 < order) × (order < 22) × (0 < g) × (g < 1000) × (at + 6 ≤ length (now plan)) ⌝ }
+    ensures { λ r. ⌜ ((rest : ℕ) → lone ≡ eqb rest 0 → Spoken ukPool 6 (now (plan .entry)) at (now (plan .exit)) r (compoundWord settings (part ukPool ending) rest order g ∷ [])) ⌝ }
 {
     if is_bare(lone, g) {
         return scale(order, SPACE, ending, plan, at);
     }
-    let k = count(g / 100 % 10, g / 10 % 10, g % 10, plan, at);
+    let k = count(settings, g / 100 % 10, g / 10 % 10, g % 10, plan, at);
     scale(order, ON, ending, plan, k)
 }

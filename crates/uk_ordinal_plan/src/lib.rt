@@ -3,13 +3,18 @@ mod compound;
 mod plain;
 
 use plan::push;
+use settings::MASCULINE;
+use settings::Settings;
 use uk::ORDERS;
-use uk::Settings;
 use uk_plan::SPACE;
 ghost use mathlib.Core.Path.{_≡_};
-ghost use Prim.Native.Nat.{_+_, _≤_, _<_};
-ghost use lib.ListN.{length, set};
+ghost use mathlib.Core.List.{_∷_, _++_};
+ghost use Prim.Native.Nat.{ℕ, _+_, _≤_, _<_};
+ghost use lib.Dec.{eqb};
+ghost use lib.ListN.{length, getD, set};
 ghost use Rattle.base.specs.Join.{joined};
+ghost use Rattle.settings.specs.Settings.{masculine, ukrainianRanges, Within, inGender};
+ghost use Rattle.figures.specs.Groups.{total};
 ghost use Rattle.groups.specs.Highest.{ZeroFrom, Highest};
 ghost use Rattle.words.specs.Part.{part};
 ghost use Rattle.uk.specs.Pool.{ukPool};
@@ -17,11 +22,11 @@ ghost use Rattle.plan.specs.Phrase.{phrase};
 ghost use Rattle.plan.specs.Plan.{says};
 ghost use Rattle.plan.specs.Speaks.{Told};
 ghost use Rattle.uk.specs.Ukrainian.{ukrainian};
-ghost use Rattle.uk.specs.Cardinal.{groupsBelow};
-ghost use Rattle.uk_ordinal.specs.Ordinal.{lowestWords, lowest as lowestOf, ordinalWords};
-ghost use Rattle.uk_ordinal.specs.Year.{eraWords, yearWords};
+ghost use Rattle.cardinals.specs.Listed.{listed};
+ghost use Rattle.uk_ordinal.specs.Ordinal.{inNominative, lowestWords, ordinalWords};
+ghost use Rattle.uk_ordinal.specs.Year.{eraWords, yearNoun};
 ghost use Rattle.uk_ordinal_plan.specs.Said.{Spoken};
-ghost use Rattle.uk_ordinal_plan.specs.Groups.{Groups22};
+ghost use Rattle.uk_ordinal_plan.specs.Groups.{Groups22, LowestAt};
 
 // How many pieces the plan of an ordinal has room for, and that of a year: the groups above the lowest have five each, the lowest has six, a year
 // three more.
@@ -32,7 +37,7 @@ pub const YEAR_PLAN: usize = 119;
 // The order of the lowest group that is not zero; ORDERS where there is none.
 fn lowest(gs: &[u16; ORDERS]) -> usize
     requires { ⌜ length (now gs) ≡ 22 ⌝ }
-    ensures { λ r. ⌜ (r ≡ lowestOf (now (gs .entry))) × (r ≤ 22) ⌝ }
+    ensures { λ r. ⌜ LowestAt (now (gs .entry)) r ⌝ }
 {
     let mut i: usize = 0;
     while i < ORDERS {
@@ -45,22 +50,25 @@ fn lowest(gs: &[u16; ORDERS]) -> usize
 }
 
 // The groups above the lowest, as nominative cardinals.
-fn higher(n: usize, gs: &[u16; ORDERS], order: usize, plan: &mut [u32], at: usize) -> usize
-    requires { ⌜ (order < 22) × (n ≤ 22) × ZeroFrom (now gs) n × (at + 110 ≤ length (now plan)) ⌝ }
-    ensures { λ r. ⌜ Told ukPool 110 (now (plan .entry)) at (now (plan .exit)) r (groupsBelow (ukrainian 0 0) 22 (set (now (gs .entry)) order 0)) ⌝ }
+fn higher(
+    settings: Settings,
+    n: usize,
+    gs: &[u16; ORDERS],
+    order: usize,
+    plan: &mut [u32],
+    at: usize,
+) -> usize
+    requires { ⌜ Within (ukrainianRanges settings) × (order < 22) × (n ≤ 22) × ZeroFrom (now gs) n × (at + 110 ≤ length (now plan)) ⌝ }
+    ensures { λ r. ⌜ Told ukPool 110 (now (plan .entry)) at (now (plan .exit)) r (listed (ukrainian (inNominative settings)) 22 (set (now (gs .entry)) order 0)) ⌝ }
 {
     let mut above = *gs;
     above[order] = 0;
-    let nominative = Settings {
-        gender: 0,
-        number: 0,
-        case: 0,
-    };
-    uk_plan::say_groups(nominative, n, &above, plan, at)
+    uk_plan::say_groups(uk_ordinal::in_nominative(settings), n, &above, plan, at)
 }
 
 // The lowest group, which is not zero.
 fn lowest_words(
+    settings: Settings,
     order: usize,
     g: usize,
     lone: bool,
@@ -68,13 +76,13 @@ fn lowest_words(
     plan: &mut [u32],
     at: usize,
 ) -> usize
-    requires { ⌜ (order < 22) × (0 < g) × (g < 1000) × (at + 6 ≤ length (now plan)) ⌝ }
-    ensures { λ r. ⌜ Spoken ukPool 6 (now (plan .entry)) at (now (plan .exit)) r (lowestWords (part ukPool ending) lone order g) ⌝ }
+    requires { ⌜ Within (ukrainianRanges settings) × (order < 22) × (0 < g) × (g < 1000) × (at + 6 ≤ length (now plan)) ⌝ }
+    ensures { λ r. ⌜ ((rest : ℕ) → lone ≡ eqb rest 0 → Spoken ukPool 6 (now (plan .entry)) at (now (plan .exit)) r (lowestWords settings (part ukPool ending) rest order g)) ⌝ }
 {
     if order == 0 {
-        return plain::plain_words(g, ending, plan, at);
+        return plain::plain_words(settings, g, ending, plan, at);
     }
-    compound::scale_word(order, g, lone, ending, plan, at)
+    compound::scale_word(settings, order, g, lone, ending, plan, at)
 }
 
 // Adds an ordinal's words to a plan.
@@ -85,20 +93,20 @@ fn say_ordinal(
     plan: &mut [u32],
     at: usize,
 ) -> usize
-    requires { ⌜ ((settings .gender < 3) × (settings .number < 2) × (settings .case < 6)) × Groups22 (now gs) × Highest (now gs) n × (at + 116 ≤ length (now plan)) ⌝ }
-    ensures { λ r. ⌜ Spoken ukPool 116 (now (plan .entry)) at (now (plan .exit)) r (ordinalWords (settings .gender) (settings .number) (settings .case) (now (gs .entry))) ⌝ }
+    requires { ⌜ Within (ukrainianRanges settings) × Groups22 (now gs) × Highest (now gs) n × (at + 116 ≤ length (now plan)) ⌝ }
+    ensures { λ r. ⌜ Spoken ukPool 116 (now (plan .entry)) at (now (plan .exit)) r (ordinalWords settings (total (now (gs .entry)))) ⌝ }
 {
-    let ending = uk_ordinal::ending(uk_ordinal::is_soft(gs[0]), settings);
+    let ending = uk_ordinal::ending(settings, uk_ordinal::is_soft(gs[0]));
     let order = lowest(gs);
     if order == ORDERS {
         return plain::zero_word(ending, plan, at);
     }
     let g = base::wide_group(gs[order]);
     if order + 1 == n {
-        return lowest_words(order, g, true, ending, plan, at);
+        return lowest_words(settings, order, g, true, ending, plan, at);
     }
-    let k = higher(n, gs, order, plan, at);
-    lowest_words(order, g, false, ending, plan, k)
+    let k = higher(settings, n, gs, order, plan, at);
+    lowest_words(settings, order, g, false, ending, plan, k)
 }
 
 // What years 0 and below add.
@@ -115,8 +123,8 @@ fn say_era(early: bool, plan: &mut [u32], at: usize) -> usize
 
 // The plan of an ordinal under these settings: it says the ordinal's words, joined.
 pub fn plan_ordinal(settings: Settings, n: usize, gs: &[u16; ORDERS], plan: &mut [u32]) -> usize
-    requires { ⌜ ((settings .gender < 3) × (settings .number < 2) × (settings .case < 6)) × Groups22 (now gs) × Highest (now gs) n × (116 ≤ length (now plan)) ⌝ }
-    ensures { λ r. ⌜ (r ≤ 116) × (phrase (says ukPool (now (plan .exit)) r) ≡ joined (ordinalWords (settings .gender) (settings .number) (settings .case) (now (gs .entry)))) ⌝ }
+    requires { ⌜ Within (ukrainianRanges settings) × Groups22 (now gs) × Highest (now gs) n × (116 ≤ length (now plan)) ⌝ }
+    ensures { λ r. ⌜ (r ≤ 116) × (phrase (says ukPool (now (plan .exit)) r) ≡ joined (ordinalWords settings (total (now (gs .entry))))) ⌝ }
 {
     say_ordinal(settings, n, gs, plan, 0)
 }
@@ -129,15 +137,10 @@ pub fn plan_year(
     gs: &[u16; ORDERS],
     plan: &mut [u32],
 ) -> usize
-    requires { ⌜ ((settings .gender < 3) × (settings .number < 2) × (settings .case < 6)) × Groups22 (now gs) × Highest (now gs) n × (119 ≤ length (now plan)) ⌝ }
-    ensures { λ r. ⌜ (r ≤ 119) × (phrase (says ukPool (now (plan .exit)) r) ≡ joined (yearWords (settings .number) (settings .case) early (now (gs .entry)))) ⌝ }
+    requires { ⌜ Within (ukrainianRanges settings) × Groups22 (now gs) × Highest (now gs) n × (119 ≤ length (now plan)) ⌝ }
+    ensures { λ r. ⌜ (r ≤ 119) × (phrase (says ukPool (now (plan .exit)) r) ≡ joined (ordinalWords (inGender masculine settings) (total (now (gs .entry))) ++ (yearNoun settings ∷ eraWords early))) ⌝ }
 {
-    let masculine = Settings {
-        gender: 0,
-        number: settings.number,
-        case: settings.case,
-    };
-    let a = say_ordinal(masculine, n, gs, plan, 0);
+    let a = say_ordinal(settings::in_gender(MASCULINE, settings), n, gs, plan, 0);
     let b = push(plan, a, SPACE, uk_ordinal::year_word(settings));
     say_era(early, plan, b)
 }

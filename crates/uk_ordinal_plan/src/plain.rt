@@ -1,39 +1,45 @@
 // The lowest group at order 0, and zero: words whose last carries the ending.
 use plan::push;
+use settings::Settings;
 use uk_plan::ON;
 use uk_plan::SPACE;
 use uk_plan::hundred_word;
 ghost use mathlib.Core.Path.{_≡_};
 ghost use mathlib.Core.List.{[], _∷_, _++_};
-ghost use Prim.Native.Nat.{_+_, _/_, _%_, _≤_, _<_};
+ghost use Prim.Native.Nat.{_+_, _≤_, _<_};
 ghost use lib.ListN.{length};
+ghost use Rattle.settings.specs.Settings.{ukrainianRanges, Within};
 ghost use Rattle.base.specs.Utf8.{utf8};
 ghost use Rattle.words.specs.Part.{part};
 ghost use Rattle.uk.specs.Pool.{ukPool};
 ghost use Rattle.plan.specs.Speaks.{Told};
 ghost use Rattle.uk.specs.Rules.{opt};
-ghost use Rattle.uk.specs.Ukrainian.{ukrainian};
+ghost use Rattle.uk.specs.Ukrainian.{ukrainianDigits};
 ghost use Rattle.uk_ordinal.specs.OrdinalTables.{ordinalZeroBase};
-ghost use Rattle.uk_ordinal.specs.Ordinal.{tailWords, plainWords};
-
-// The case of the words before the last.
-const NOMINATIVE: usize = 0;
+ghost use Rattle.uk_ordinal.specs.Ordinal.{inNominative, tailWords, plainWords};
 
 // The nominative tens word, if any.
-fn ten_word(t: usize, plan: &mut [u32], at: usize) -> usize
-    requires { ⌜ ((t ≡ 1 → ⊥) × (t < 10)) × (at < length (now plan)) ⌝ }
-    ensures { λ r. ⌜ Told ukPool 1 (now (plan .entry)) at (now (plan .exit)) r (opt (ukrainian 0 0 .ten) t) ⌝ }
+fn ten_word(settings: Settings, t: usize, plan: &mut [u32], at: usize) -> usize
+    requires { ⌜ Within (ukrainianRanges settings) × ((t ≡ 1 → ⊥) × (t < 10)) × (at < length (now plan)) ⌝ }
+    ensures { λ r. ⌜ Told ukPool 1 (now (plan .entry)) at (now (plan .exit)) r (opt (ukrainianDigits (inNominative settings) .ten) t) ⌝ }
 {
     if t == 0 {
         return at;
     }
-    push(plan, at, SPACE, uk::ten(NOMINATIVE, t))
+    push(plan, at, SPACE, uk::ten(uk_ordinal::in_nominative(settings), t))
 }
 
 // The tens and units that carry the ending.
-fn tail_words(t: usize, u: usize, ending: u16, plan: &mut [u32], at: usize) -> usize
-    requires { ⌜ (0 < t + u) × (t < 10) × (u < 10) × (at + 3 ≤ length (now plan)) ⌝ }
-    ensures { λ r. ⌜ Told ukPool 3 (now (plan .entry)) at (now (plan .exit)) r (tailWords (part ukPool ending) t u) ⌝ }
+fn tail_words(
+    settings: Settings,
+    t: usize,
+    u: usize,
+    ending: u16,
+    plan: &mut [u32],
+    at: usize,
+) -> usize
+    requires { ⌜ Within (ukrainianRanges settings) × (0 < t + u) × (t < 10) × (u < 10) × (at + 3 ≤ length (now plan)) ⌝ }
+    ensures { λ r. ⌜ Told ukPool 3 (now (plan .entry)) at (now (plan .exit)) r (tailWords settings (part ukPool ending) t u) ⌝ }
 {
     if t == 1 {
         let a = push(plan, at, SPACE, uk::teen(u));
@@ -43,22 +49,28 @@ fn tail_words(t: usize, u: usize, ending: u16, plan: &mut [u32], at: usize) -> u
         let a = push(plan, at, SPACE, uk_ordinal::ten_base(t));
         return push(plan, a, ON, ending);
     }
-    let a = ten_word(t, plan, at);
+    let a = ten_word(settings, t, plan, at);
     let b = push(plan, a, SPACE, uk_ordinal::unit_base(u));
     push(plan, b, ON, ending)
 }
 
 // The lowest group at order 0.
-pub fn plain_words(g: usize, ending: u16, plan: &mut [u32], at: usize) -> usize
-    requires { ⌜ at + 4 ≤ length (now plan) ⌝ }
-    ensures { λ r. ⌜ Told ukPool 4 (now (plan .entry)) at (now (plan .exit)) r (plainWords (part ukPool ending) (g / 100 % 10) (g / 10 % 10) (g % 10)) ⌝ }
+pub fn plain_words(
+    settings: Settings,
+    g: usize,
+    ending: u16,
+    plan: &mut [u32],
+    at: usize,
+) -> usize
+    requires { ⌜ Within (ukrainianRanges settings) × (at + 4 ≤ length (now plan)) ⌝ }
+    ensures { λ r. ⌜ Told ukPool 4 (now (plan .entry)) at (now (plan .exit)) r (plainWords settings (part ukPool ending) g) ⌝ }
 {
     if g % 100 == 0 {
         let a = push(plan, at, SPACE, uk_ordinal::hundred_base());
         return push(plan, a, ON, ending);
     }
-    let a = hundred_word(NOMINATIVE, g / 100 % 10, plan, at);
-    tail_words(g / 10 % 10, g % 10, ending, plan, a)
+    let a = hundred_word(uk_ordinal::in_nominative(settings), g / 100 % 10, plan, at);
+    tail_words(settings, g / 10 % 10, g % 10, ending, plan, a)
 }
 
 // Zero's word.

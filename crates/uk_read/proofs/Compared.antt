@@ -22,7 +22,7 @@ use Rattle.figures.proofs.Laws.Groups.{groups-total, total-lt}
 use Rattle.uk.specs.Rules.{Words}
 use Rattle.uk.specs.Cardinal.{cardinalWords}
 use Rattle.uk.specs.Grammar.{Sentence, Says}
-use Rattle.uk_read.specs.Reading.{sums, signed, unsigned}
+use Rattle.uk_read.specs.Reading.{sums, signed, afterMinus}
 use Rattle.figures.specs.Seen.{seenAs, seenOf, ReadOf}
 use Rattle.figures.specs.declared.Seen.the-variants.{Refused, Plain}
 use Rattle.uk_read.proofs.Known.{Lawful}
@@ -31,14 +31,14 @@ use Rattle.uk_read.proofs.Sentences.{separable, reads}
 
 module _ (W : Words) (L : Lawful W) (s : List ℕ) where
   -- what is made of a sentence
-  made : {minus : Bool} {n : ℕ} → Says W s minus n → (signed (split s) ≡ minus) × (total (sums 22 (unsigned (split s))) ≡ n)
+  made : {minus : Bool} {n : ℕ} → Says W s minus n → (signed (split s) ≡ minus) × (total (sums 22 (afterMinus (split s))) ≡ n)
   made p = rw (p .bytes, split-joined (p .words) (separable W L (p .derives))) (reads W L (p .derives))
 
   pub says-once : {m k : Bool} {n l : ℕ} → Says W s m n → Says W s k l → (m ≡ k) × (n ≡ l)
   says-once p q = let a = made p in let b = made q in (sym (a .0) ∙ b .0, sym (a .1) ∙ b .1)
 
   -- the groups gs and the sign m that were made of s
-  module _ (gs : List ℕ) (m : Bool) (z : length gs ≡ 22) (g : Groups gs) (em : m ≡ signed (split s)) (eg : gs ≡ sums 22 (unsigned (split s))) where
+  module _ (gs : List ℕ) (m : Bool) (z : length gs ≡ 22) (g : Groups gs) (em : m ≡ signed (split s)) (eg : gs ≡ sums 22 (afterMinus (split s))) where
     said : List Word
     said = cardinalWords W (eqb (total gs) 0) m gs
 
@@ -106,7 +106,7 @@ words-stand b s pool plan said n e d = record { holds = λ t. sym e ∙ d .holds
 -- of any bytes it is decided whether they are a sentence: what is made of them is the only value that they can have
 module _ (W : Words) (L : Lawful W) (s : List ℕ) where
   guess : ℕ
-  guess = total (sums 22 (unsigned (split s)))
+  guess = total (sums 22 (afterMinus (split s)))
 
   try : (m : Bool) (n : ℕ) → List ℕ
   try m n = joined (cardinalWords W (eqb n 0) m (groupsOf 22 n))

@@ -11,7 +11,7 @@ use Rattle.figures.specs.Groups.{total}
 use Rattle.tokens.proofs.Words.{Separable}
 use Rattle.uk.specs.Rules.{Words, opt, lowWords, numWords, nounWords}
 use Rattle.uk.specs.Grammar.{Falling, end, skip, group, Sentence, zero-word, plain, negative}
-use Rattle.uk_read.specs.Reading.{mean, taken, sums, signed, unsigned}
+use Rattle.uk_read.specs.Reading.{mean, taken, sums, signed, afterMinus}
 use Rattle.uk_read.proofs.Known.{Lawful}
 use Rattle.uk_read.proofs.Taking.{closed, closes}
 use Rattle.uk_read.proofs.Falls.{lone, reads-falling}
@@ -69,14 +69,14 @@ module _ (W : Words) (L : Lawful W) where
   value {ws = ws} f = ap (λ (l : List Word). total (sums 22 l)) (sym (append-nil ws)) ∙ reads-falling W L [] tt f (omega arith) .0
 
   -- the words without the sign
-  past : (ws : List Word) → Unsigned ws → unsigned ws ≡ ws
+  past : (ws : List Word) → Unsigned ws → afterMinus ws ≡ ws
   past [] e = refl
   past (w ∷ ws) e = rw e refl
 
-  zero-value : (ws : List Word) → Unsigned ws → taken 0 ws ≡ closed 0 0 [] → total (sums 22 (unsigned ws)) ≡ 0
+  zero-value : (ws : List Word) → Unsigned ws → taken 0 ws ≡ closed 0 0 [] → total (sums 22 (afterMinus ws)) ≡ 0
   zero-value ws n e = ap (λ (l : List Word). total (sums 22 l)) (past ws n) ∙ lone ws 0 [] e 21
 
-  pub reads : {ws : List Word} {minus : Bool} {n : ℕ} → Sentence W ws minus n → (signed ws ≡ minus) × (total (sums 22 (unsigned ws)) ≡ n)
+  pub reads : {ws : List Word} {minus : Bool} {n : ℕ} → Sentence W ws minus n → (signed ws ≡ minus) × (total (sums 22 (afterMinus ws)) ≡ n)
   reads zero-word =
       let n = other (W .zeroWord) 1000 [] (L .zeroth .means) (λ q. omega arith) in
       (n, zero-value (W .zeroWord ∷ []) n (closes 0 0 (W .zeroWord) [] (L .zeroth .means)))

@@ -13,7 +13,7 @@ use Rattle.base.specs.Join.{Word}
 use Rattle.plan.proofs.Laws.{from, from-is}
 use Rattle.tokens.specs.Tokens.{firstWord, afterWord, split}
 use Rattle.tokens.proofs.Words.{split-first}
-use Rattle.uk_read.specs.Reading.{mean, taken, signed, unsigned}
+use Rattle.uk_read.specs.Reading.{mean, taken, signed, afterMinus}
 use Rattle.uk_read.proofs.Taking.{closed}
 
 -- the word at a place, and the words behind it
@@ -44,7 +44,7 @@ ended s at v h = rw (drop-of-length-le s {i = at} h) refl
 
 -- the sign
 abbrev pub SignAt : ℕ → List ℕ → Type 0
-SignAt r s = (eqb r 0 ≡ not (signed (split s))) × (split (drop r s) ≡ unsigned (split s)) × (r ≤ length s)
+SignAt r s = (eqb r 0 ≡ not (signed (split s))) × (split (drop r s) ≡ afterMinus (split s)) × (r ≤ length s)
 
 pub sign-none : (s : List ℕ) → length s ≡ 0 → SignAt 0 s
 unfolding split

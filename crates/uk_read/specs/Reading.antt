@@ -42,6 +42,6 @@ signed [] = false
 signed (w ∷ ws) = eqb (mean w) 2001
 
 -- the words without it
-abbrev pub unsigned : List Word → List Word
-unsigned [] = []
-unsigned (w ∷ ws) = cond (eqb (mean w) 2001) ws (w ∷ ws)
+abbrev pub afterMinus : List Word → List Word
+afterMinus [] = []
+afterMinus (w ∷ ws) = cond (eqb (mean w) 2001) ws (w ∷ ws)

@@ -1,8 +1,8 @@
 // The reader of Ukrainian cardinals. It takes any bytes word by word, makes a sign and groups of them, and compares the words that these have
 // under the settings, planned as the speller plans them, with the bytes.
 use figures::Read;
+use settings::Settings;
 use uk::ORDERS;
-use uk::Settings;
 use uk_plan::PLAN;
 ghost use mathlib.Core.Path.{_≡_};
 ghost use mathlib.Core.Bool.{not};
@@ -10,13 +10,14 @@ ghost use mathlib.Core.List.{_++_};
 ghost use Prim.Native.Nat.{_+_, _≤_, _<_};
 ghost use lib.Dec.{eqb};
 ghost use lib.ListN.{length, take, drop, replicate};
+ghost use Rattle.settings.specs.Settings.{ukrainianRanges, Within};
 ghost use Rattle.figures.specs.Groups.{Groups};
 ghost use Rattle.figures.specs.Seen.{ReadOf};
 ghost use Rattle.groups.specs.Highest.{ZeroFrom, Highest};
 ghost use Rattle.tokens.specs.Tokens.{split};
 ghost use Rattle.uk.specs.Ukrainian.{ukrainian};
-ghost use Rattle.uk.specs.Grammar.{Says};
-ghost use Rattle.uk_read.specs.Reading.{taken, sums, left, signed, unsigned};
+ghost use Rattle.cardinals.specs.Grammar.{Says};
+ghost use Rattle.uk_read.specs.Reading.{taken, sums, left, signed, afterMinus};
 
 // What words mean: a number word at most the first of these, a scale noun its order and the second, the minus word the third.
 const MOST: u16 = 999;
@@ -103,7 +104,7 @@ pub fn groups(k: usize, s: &[u8], out: &mut [u16; ORDERS]) -> Span
 
 // How many bytes the minus word at the front of a text has with the space behind it; 0 where there is none.
 fn minus(s: &[u8]) -> usize
-    ensures { λ r. ⌜ (eqb r 0 ≡ not (signed (split (now (s .entry))))) × (split (drop r (now (s .entry))) ≡ unsigned (split (now (s .entry)))) × (r ≤ length (now (s .entry))) ⌝ }
+    ensures { λ r. ⌜ (eqb r 0 ≡ not (signed (split (now (s .entry))))) × (split (drop r (now (s .entry))) ≡ afterMinus (split (now (s .entry)))) × (r ≤ length (now (s .entry))) ⌝ }
 {
     if s.len() == 0 {
         return 0;
@@ -117,8 +118,8 @@ fn minus(s: &[u8]) -> usize
 
 // Any bytes, under these settings: what they are by the grammar, with the groups in out.
 pub fn read_cardinal(settings: Settings, s: &[u8], out: &mut [u16; ORDERS]) -> Read
-    requires { ⌜ (settings .gender < 3) × (settings .case < 6) × (now out ≡ replicate 22 0) ⌝ }
-    ensures { λ r. ⌜ ReadOf (Says (ukrainian (settings .gender) (settings .case)) (now (s .entry))) (r .seen) (now (out .exit)) × Groups (now (out .exit)) × (length (now (out .exit)) ≡ 22) ⌝ }
+    requires { ⌜ Within (ukrainianRanges settings) × (now out ≡ replicate 22 0) ⌝ }
+    ensures { λ r. ⌜ ReadOf (Says (ukrainian settings) (now (s .entry))) (r .seen) (now (out .exit)) × Groups (now (out .exit)) × (length (now (out .exit)) ≡ 22) ⌝ }
     ensures { λ r. ⌜ Highest (now (out .exit)) (r .orders) ⌝ }
 {
     let m = minus(s);

@@ -1,15 +1,15 @@
 // The calls for a host in C. Each hands on to the crate of its kind. The contracts say all that a host may rely on, and have no `requires`: of the
 // host it is asked only, as of any caller in Rattle, that out does not overlap what is read (include/yokepear.h).
 use base::Answer;
-ghost use Rattle.base.specs.Answer.{replied, Answers, ReadsUnless};
-ghost use Rattle.uk.specs.Settings.{unlessSettings};
-ghost use Rattle.uk_calls.specs.Cardinals.{refusedCardinal, refusedSetting, cardinal, Means};
-ghost use Rattle.fr.specs.Settings.{french};
-ghost use Rattle.fr_calls.specs.Calls.{settingsRefusal, cardinalRefusal, ordinalRefusal, firstRefusal, cardinalOf, ordinalOf, CardinalMeans, OrdinalMeans};
-ghost use Rattle.uk_money.specs.Codes.{currencyOf};
-ghost use Rattle.uk_money_calls.specs.MoneyCalls.{refusedCode, refusedAmount, moneyPhrase, Means as MoneyMeans};
-ghost use Rattle.uk_ordinal.specs.DigitOrdinal.{digitOrdinal};
-ghost use Rattle.uk_ordinal_calls.specs.Calls.{refusedOrdinal, refusedDigitOrdinal, ordinalPhrase, yearPhrase};
+ghost use mathlib.Core.List.{[], _∷_};
+ghost use Rattle.base.specs.Answer.{firstOf, replied, Answers, ReadsUnless};
+ghost use Rattle.settings.specs.Settings.{ukrainianSettings, frenchSettings, ukrainianRanges, frenchRanges};
+ghost use Rattle.settings.specs.Refused.{outOfRange};
+ghost use Rattle.uk_calls.specs.UkCardinals.{ukToCardinal, UkCardinalMeans};
+ghost use Rattle.uk_ordinal_calls.specs.UkOrdinals.{ukToOrdinal, ukToOrdinalNum, ukToYear};
+ghost use Rattle.uk_money.specs.Codes.{currencyOf, unknown};
+ghost use Rattle.uk_money_calls.specs.MoneyCalls.{ukToCurrency, MoneyMeans};
+ghost use Rattle.fr_calls.specs.FrCalls.{frToCardinal, frToOrdinal, FrCardinalMeans, FrOrdinalMeans};
 
 // The cardinal of a number text.
 #[no_mangle]
@@ -20,7 +20,7 @@ pub extern "C" fn yokepear_uk_to_cardinal(
     text: &[u8],
     out: &mut [u8],
 ) -> Answer
-    ensures { λ r. ⌜ Answers r (now (out .entry)) (now (out .exit)) (replied (refusedCardinal gender number case (now (text .entry))) (cardinal gender case (now (text .entry))) (now (out .entry))) ⌝ }
+    ensures { λ r. ⌜ Answers r (now (out .entry)) (now (out .exit)) (replied (ukToCardinal (ukrainianSettings gender number case) (now (text .entry))) (now (out .entry))) ⌝ }
 {
     uk_calls::to_cardinal(gender, number, case, text, out)
 }
@@ -34,7 +34,7 @@ pub extern "C" fn yokepear_uk_from_cardinal(
     phrase: &[u8],
     out: &mut [u8],
 ) -> Answer
-    ensures { λ r. ⌜ ReadsUnless (refusedSetting gender number case) (Means gender case) (now (phrase .entry)) r (now (out .entry)) (now (out .exit)) ⌝ }
+    ensures { λ r. ⌜ ReadsUnless (firstOf (outOfRange (ukrainianRanges (ukrainianSettings gender number case)) ∷ [])) (UkCardinalMeans (ukrainianSettings gender number case)) (now (phrase .entry)) r (now (out .entry)) (now (out .exit)) ⌝ }
 {
     uk_calls::from_cardinal(gender, number, case, phrase, out)
 }
@@ -48,7 +48,7 @@ pub extern "C" fn yokepear_uk_to_ordinal(
     text: &[u8],
     out: &mut [u8],
 ) -> Answer
-    ensures { λ r. ⌜ Answers r (now (out .entry)) (now (out .exit)) (replied (unlessSettings gender number case (refusedOrdinal (now (text .entry)))) (ordinalPhrase gender number case (now (text .entry))) (now (out .entry))) ⌝ }
+    ensures { λ r. ⌜ Answers r (now (out .entry)) (now (out .exit)) (replied (ukToOrdinal (ukrainianSettings gender number case) (now (text .entry))) (now (out .entry))) ⌝ }
 {
     uk_ordinal_calls::to_ordinal(gender, number, case, text, out)
 }
@@ -62,7 +62,7 @@ pub extern "C" fn yokepear_uk_to_ordinal_num(
     text: &[u8],
     out: &mut [u8],
 ) -> Answer
-    ensures { λ r. ⌜ Answers r (now (out .entry)) (now (out .exit)) (replied (unlessSettings gender number case (refusedDigitOrdinal (now (text .entry)))) (digitOrdinal gender number case (now (text .entry))) (now (out .entry))) ⌝ }
+    ensures { λ r. ⌜ Answers r (now (out .entry)) (now (out .exit)) (replied (ukToOrdinalNum (ukrainianSettings gender number case) (now (text .entry))) (now (out .entry))) ⌝ }
 {
     uk_ordinal_calls::to_ordinal_num(gender, number, case, text, out)
 }
@@ -76,7 +76,7 @@ pub extern "C" fn yokepear_uk_to_year(
     year: i64,
     out: &mut [u8],
 ) -> Answer
-    ensures { λ r. ⌜ Answers r (now (out .entry)) (now (out .exit)) (replied (unlessSettings gender number case 0) (yearPhrase number case year) (now (out .entry))) ⌝ }
+    ensures { λ r. ⌜ Answers r (now (out .entry)) (now (out .exit)) (replied (ukToYear (ukrainianSettings gender number case) year) (now (out .entry))) ⌝ }
 {
     uk_ordinal_calls::to_year(gender, number, case, year, out)
 }
@@ -91,7 +91,7 @@ pub extern "C" fn yokepear_uk_to_currency(
     text: &[u8],
     out: &mut [u8],
 ) -> Answer
-    ensures { λ r. ⌜ Answers r (now (out .entry)) (now (out .exit)) (replied (refusedAmount gender number case (now (code .entry)) (now (text .entry))) (moneyPhrase (currencyOf (now (code .entry))) case (now (text .entry))) (now (out .entry))) ⌝ }
+    ensures { λ r. ⌜ Answers r (now (out .entry)) (now (out .exit)) (replied (ukToCurrency (ukrainianSettings gender number case) (now (code .entry)) (now (text .entry))) (now (out .entry))) ⌝ }
 {
     uk_money_calls::to_currency(gender, number, case, code, text, out)
 }
@@ -106,7 +106,7 @@ pub extern "C" fn yokepear_uk_from_currency(
     phrase: &[u8],
     out: &mut [u8],
 ) -> Answer
-    ensures { λ r. ⌜ ReadsUnless (refusedCode gender number case (now (code .entry))) (MoneyMeans (currencyOf (now (code .entry))) case) (now (phrase .entry)) r (now (out .entry)) (now (out .exit)) ⌝ }
+    ensures { λ r. ⌜ ReadsUnless (firstOf (outOfRange (ukrainianRanges (ukrainianSettings gender number case)) ∷ unknown (currencyOf (now (code .entry))) ∷ [])) (MoneyMeans (ukrainianSettings gender number case) (currencyOf (now (code .entry)))) (now (phrase .entry)) r (now (out .entry)) (now (out .exit)) ⌝ }
 {
     uk_money_calls::from_currency(gender, number, case, code, phrase, out)
 }
@@ -120,7 +120,7 @@ pub extern "C" fn yokepear_fr_to_cardinal(
     text: &[u8],
     out: &mut [u8],
 ) -> Answer
-    ensures { λ r. ⌜ Answers r (now (out .entry)) (now (out .exit)) (replied (firstRefusal (french feminine reformed region) (cardinalRefusal (now (text .entry)))) (cardinalOf (french feminine reformed region) (now (text .entry))) (now (out .entry))) ⌝ }
+    ensures { λ r. ⌜ Answers r (now (out .entry)) (now (out .exit)) (replied (frToCardinal (frenchSettings feminine reformed region) (now (text .entry))) (now (out .entry))) ⌝ }
 {
     fr_calls::to_cardinal(feminine, reformed, region, text, out)
 }
@@ -134,7 +134,7 @@ pub extern "C" fn yokepear_fr_to_ordinal(
     text: &[u8],
     out: &mut [u8],
 ) -> Answer
-    ensures { λ r. ⌜ Answers r (now (out .entry)) (now (out .exit)) (replied (firstRefusal (french feminine reformed region) (ordinalRefusal (now (text .entry)))) (ordinalOf (french feminine reformed region) (now (text .entry))) (now (out .entry))) ⌝ }
+    ensures { λ r. ⌜ Answers r (now (out .entry)) (now (out .exit)) (replied (frToOrdinal (frenchSettings feminine reformed region) (now (text .entry))) (now (out .entry))) ⌝ }
 {
     fr_calls::to_ordinal(feminine, reformed, region, text, out)
 }
@@ -148,7 +148,7 @@ pub extern "C" fn yokepear_fr_from_cardinal(
     phrase: &[u8],
     out: &mut [u8],
 ) -> Answer
-    ensures { λ r. ⌜ ReadsUnless (settingsRefusal (french feminine reformed region)) (CardinalMeans (french feminine reformed region)) (now (phrase .entry)) r (now (out .entry)) (now (out .exit)) ⌝ }
+    ensures { λ r. ⌜ ReadsUnless (firstOf (outOfRange (frenchRanges (frenchSettings feminine reformed region)) ∷ [])) (FrCardinalMeans (frenchSettings feminine reformed region)) (now (phrase .entry)) r (now (out .entry)) (now (out .exit)) ⌝ }
 {
     fr_calls::from_cardinal(feminine, reformed, region, phrase, out)
 }
@@ -162,7 +162,7 @@ pub extern "C" fn yokepear_fr_from_ordinal(
     phrase: &[u8],
     out: &mut [u8],
 ) -> Answer
-    ensures { λ r. ⌜ ReadsUnless (settingsRefusal (french feminine reformed region)) (OrdinalMeans (french feminine reformed region)) (now (phrase .entry)) r (now (out .entry)) (now (out .exit)) ⌝ }
+    ensures { λ r. ⌜ ReadsUnless (firstOf (outOfRange (frenchRanges (frenchSettings feminine reformed region)) ∷ [])) (FrOrdinalMeans (frenchSettings feminine reformed region)) (now (phrase .entry)) r (now (out .entry)) (now (out .exit)) ⌝ }
 {
     fr_calls::from_ordinal(feminine, reformed, region, phrase, out)
 }

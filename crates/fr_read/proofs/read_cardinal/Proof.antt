@@ -5,13 +5,13 @@ use native.Mathlib.Omega.{arith}
 use mathlib.Core.Path.{_≡_}
 use lib.ListN.{length}
 use Rattle.groups.proofs.Highest.{top-zero}
-use Rattle.fr_read.specs.Reading.{meanings, unsigned, guessed}
+use Rattle.fr_read.specs.Reading.{meanings, behindMinus, guessed}
 use Rattle.fr_read.proofs.Promises.{are-groups, behind, read}
 use Rattle.fr_read.proofs.read_cardinal.Statement.{statement}
 use Rattle.fr_read.proofs.read_cardinal.Tie as tie
 
 -- the groups are those guessed behind the sign
-groups : (c : tie.After-guess) → c .guess .last .1 .0 ≡ guessed (unsigned (meanings (c .before .before .before .before .before .args .s .now)))
+groups : (c : tie.After-guess) → c .guess .last .1 .0 ≡ guessed (behindMinus (meanings (c .before .before .before .before .before .args .s .now)))
 groups c = behind (c .before .before .before .before .before .args .s .now) _ (c .before .before .before .sign .result) (c .guess .ensures .0) (c .before .before .before .sign .ensures .1)
 
 size : (c : tie.After-guess) → length (c .guess .last .1 .0) ≡ 34

@@ -15,7 +15,7 @@ use Rattle.tokens.specs.Tokens.{split}
 use Rattle.uk.specs.Pool.{ukPool}
 use Rattle.uk.specs.Ukrainian.{ukrainian}
 use Rattle.uk.specs.Cardinal.{cardinalWords}
-use Rattle.uk_read.specs.Reading.{unsigned}
+use Rattle.uk_read.specs.Reading.{afterMinus}
 use Rattle.uk_read.proofs.Known.{lawful}
 use Rattle.uk_read.proofs.Below.{All, all-read}
 use Rattle.uk_read.proofs.Compared.{read, sign-is, words-stand}
@@ -23,13 +23,13 @@ use Rattle.uk_read.proofs.read_cardinal.Statement.{statement}
 use Rattle.uk_read.proofs.read_cardinal.Tie as tie
 
 -- the groups that were made of the bytes
-made : (c : tie.After-groups) → All (unsigned (split (c .before .before .before .before .before .args .s .now))) (c .groups .last .1 .1 .0) (c .groups .result .orders)
+made : (c : tie.After-groups) → All (afterMinus (split (c .before .before .before .before .before .args .s .now))) (c .groups .last .1 .1 .0) (c .groups .result .orders)
 made c =
     let a = c .before .before .before .before .before in
     let s = a .args .s .now in
     let m = c .before .before .before .minus in
     let g = c .groups .ensures in
-    let e : split (from (m .result) s) ≡ unsigned (split s) = ap split (from-is (m .result) s) ∙ m .ensures .1 in
+    let e : split (from (m .result) s) ≡ afterMinus (split s) = ap split (from-is (m .result) s) ∙ m .ensures .1 in
     rw e at (all-read (split (from (m .result) s)) (a .args .out .now) (c .groups .last .1 .1 .0) (c .groups .result .orders) (a .pre .2) (g .0 .0) (g .0 .1) (g .1 .1 .0) (g .1 .1 .1))
 
 -- the groups are 0 just where the highest of them that is not stands nowhere

@@ -1,0 +1,35 @@
+-- The French calls: what spelling comes to, and what a phrase means (01, "French").
+-- Assumes nothing.
+use Prim.Native.Nat.{ℕ}
+use mathlib.Core.List.{List, _∷_}
+use Rattle.base.specs.Answer.{Spelling, firstOf}
+use Rattle.settings.specs.Settings.{frenchRanges}
+use Rattle.settings.specs.Refused.{outOfRange}
+use Rattle.settings.specs.declared.Settings.{Settings}
+use Rattle.figures.specs.Text.{value, negative, unsigned}
+use Rattle.figures.specs.Refusals.{cardinalRefusals, ordinalRefusals}
+use Rattle.figures.specs.Value.{NumberMeans}
+use Rattle.cardinals.specs.Cardinal.{cardinalPhrase}
+use Rattle.cardinals.specs.Grammar.{Says}
+use Rattle.fr.specs.Rules.{french}
+use Rattle.fr.specs.Ordinal.{nthPhrase}
+use Rattle.fr.specs.Grammar.{SaysNth}
+
+-- the cardinal of a number text, at most 102 digits ("Number texts")
+abbrev pub frToCardinal : Settings → List ℕ → Spelling
+frToCardinal S t = record {
+  refusal = firstOf (outOfRange (frenchRanges S) ∷ cardinalRefusals 102 t);
+  phrase = cardinalPhrase (french S) (negative t) (value (unsigned t));
+}
+
+-- its ordinal
+abbrev pub frToOrdinal : Settings → List ℕ → Spelling
+frToOrdinal S t = record { refusal = firstOf (outOfRange (frenchRanges S) ∷ ordinalRefusals 102 t); phrase = nthPhrase S (value (unsigned t)) }
+
+-- the phrase s is a cardinal whose value is the number text t
+abbrev pub FrCardinalMeans : Settings → List ℕ → List ℕ → Type 0
+FrCardinalMeans S s t = NumberMeans (Says (french S) s) t
+
+-- the phrase s is an ordinal whose value is the number text t
+abbrev pub FrOrdinalMeans : Settings → List ℕ → List ℕ → Type 0
+FrOrdinalMeans S s t = NumberMeans (SaysNth S s) t
