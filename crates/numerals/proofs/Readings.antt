@@ -1,15 +1,18 @@
 -- A reader's promise and the answer that is written: what a reading call promises.
 -- Assumes nothing.
-use Prim.Native.Nat.{ℕ}
+use Prim.Native.Nat.{ℕ, _^_, _<_}
 use mathlib.Core.Path.{_≡_, refl}
 use mathlib.Core.Bool.{Bool, true, false}
 use mathlib.Core.List.{List}
 use native.Mathlib.Omega.{arith}
+use Rattle.tables.proofs.Tests.{clash-of}
 use Rattle.base.specs.Answer.{Answers, Reads, fitted}
 use Rattle.base.specs.declared.Answer.{Answer}
+use Rattle.figures.specs.Value.{NumberMeans}
 use Rattle.figures.specs.Written.{signedDecimal}
 use Rattle.figures.specs.Groups.{total}
-use Rattle.figures.specs.Seen.{seenAs, seenNumber, ReadOf, TextOf}
+use Rattle.figures.specs.Seen.{seenAs, seenNumber, ReadOf}
+use Rattle.figures.proofs.Laws.Sign.{number-text, number-is}
 use Rattle.figures.specs.declared.Seen.{Seen}
 use Rattle.figures.specs.declared.Seen.the-variants.{Refused, Plain, Negative}
 use Rattle.numerals.specs.Reading.{answered}
@@ -28,14 +31,25 @@ seen-sign true false e = let z : _≡_ {A = ℕ} 0 1 = cc in absurd (omega arith
 seen-sign false true e = let z : _≡_ {A = ℕ} 0 1 = cc in absurd (omega arith)
 seen-sign false false e = refl
 
-module _ (Says : List ℕ → Bool → ℕ → Type 0) (s gs xs ys : List ℕ) (r : Answer) where
+-- the numbers of sentences are below 10 ^ 102, and only those above 0 have a sign
+pub record Bounded (Says : Bool → ℕ → Type 0) : Type 0 where
+  pub small : {m : Bool} {n : ℕ} → Says m n → n < 10 ^ 102
+  pub some : {n : ℕ} → Says true n → 0 < n
+
+module _ (Says : List ℕ → Bool → ℕ → Type 0) (s gs xs ys : List ℕ) (r : Answer) (b : Bounded (Says s)) where
   abbrev Right : Type 0
-  Right = Reads (λ (l t : List ℕ). TextOf (Says l) t) s r xs ys
+  Right = Reads (λ (l t : List ℕ). NumberMeans (Says l) t) s r xs ys
+
+  signed : (m : Bool) {n : ℕ} → Says s m n → m ≡ true → 0 < n
+  signed true p e = b .some p
+  signed false p e = clash-of e
 
   some : (m : Bool) → ReadOf (Says s) (seenAs m) gs → Answers r xs ys (fitted xs (signedDecimal m (total gs))) → Right
   some m p a = record {
-    sentence = λ t x. let e = p .reads (x .minus) (x .magnitude) (x .says) in rw (x .text, ← e .1, ← seen-sign m (x .minus) (e .0)) a;
-    none = λ f. seen-done m (p .refuses (λ k n q. f (signedDecimal k n) (record { minus = k; magnitude = n; says = q; text = refl })));
+    sentence = λ t x.
+        let e = p .reads (x .minus) (x .magnitude) (x .says) in
+        rw (number-is (x .valued) (b .small (x .says)), ← e .1, ← seen-sign m (x .minus) (e .0)) a;
+    none = λ f. seen-done m (p .refuses (λ k n q. f (signedDecimal k n) (record { minus = k; magnitude = n; says = q; valued = number-text k n (b .small q) (signed k q) })));
   }
 
   pub read-right : (seen : Seen) → ReadOf (Says s) seen gs → Answers r xs ys (answered seen (total gs) xs) → Right
