@@ -1,5 +1,3 @@
 pub mod Listed
 pub mod Tables
-pub mod Unique
-pub mod Numbers
-pub mod Ranges
+pub mod Laws

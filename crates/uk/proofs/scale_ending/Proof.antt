@@ -12,7 +12,7 @@ unfolding scaleEnding
 scale-ending-spec =
     tie.close
     (tie.spec
-    (λ c. search needs) (λ c. search needs) (λ c. search needs) (λ c. search needs)
+    (λ c. search needs) (λ c. search needs) (λ c. search needs) (λ c. search needs) (λ c. search needs) (λ c. search needs)
     (λ c. rw (eq-eqb _ _ (c .before .if1 .taken)) (thousand-at _ _))
     (λ c. search needs) (λ c. search needs) (λ c. search needs) (λ c. search needs)
     (λ c. rw (ne-eqb _ _ (c .before .if1 .left)) (mega-at _ _)))

@@ -9,5 +9,5 @@ pub teen-ending-spec : {M : Type 1} → statement M
 teen-ending-spec =
     tie.close
     (tie.spec
-    (λ c. search needs) (λ c. search needs)
+    (λ c. search needs) (λ c. search needs) (λ c. search needs)
     (λ c. teen-ending-at _))

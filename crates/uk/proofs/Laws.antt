@@ -1,0 +1,45 @@
+-- Settings as the code makes them: at an order, and in agreement.
+-- Assumes nothing.
+use Prim.Native.Nat.{ℕ, zero, suc, _<_}
+use mathlib.Core.Path.{_≡_, refl}
+use mathlib.Core.Bool.{Bool, true, false, cond, _&&_}
+use native.Mathlib.Omega.{arith}
+use lib.Dec.{eqb}
+use Rattle.settings.specs.Settings.{masculine, feminine, ukrainianRanges, Within, inGender}
+use Rattle.settings.specs.declared.Settings.{Settings}
+use Rattle.uk.specs.Ukrainian.{atOrder, many, agreedNumber, agreedCase, agreed}
+
+pub at-one : (k : ℕ) (S : Settings) → k ≡ 1 → inGender feminine S ≡ atOrder k S
+at-one k S e = rw e refl
+
+pub at-high : (k : ℕ) (S : Settings) → (k ≡ 0 → ⊥) → (k ≡ 1 → ⊥) → inGender masculine S ≡ atOrder k S
+at-high zero S a b = absurd (a refl)
+at-high (suc zero) S a b = absurd (b refl)
+at-high (suc (suc k)) S a b = refl
+
+-- settings in their ranges stay there in another gender, at an order, and in agreement
+pub gendered : (g : ℕ) (S : Settings) → g < 3 → Within (ukrainianRanges S) → Within (ukrainianRanges (inGender g S))
+gendered g S h w = (h, w .1)
+
+pub ordered : (k : ℕ) (S : Settings) → Within (ukrainianRanges S) → Within (ukrainianRanges (atOrder k S))
+ordered zero S w = w
+ordered (suc zero) S w = gendered 1 S (omega arith) w
+ordered (suc (suc k)) S w = gendered 0 S (omega arith) w
+
+agreed-number : (t u : ℕ) → agreedNumber t u < 2
+agreed-number t u = go (many t u) (eqb u 1)
+  where
+    go : (a b : Bool) → cond a 1 (cond b 0 1) < 2
+    go true b = omega arith
+    go false true = omega arith
+    go false false = omega arith
+
+agreed-case : (S : Settings) (t u : ℕ) → S .case < 6 → agreedCase S t u < 6
+agreed-case S t u h = go (many t u && eqb (S .case) 0)
+  where
+    go : (a : Bool) → cond a 1 (S .case) < 6
+    go true = omega arith
+    go false = h
+
+pub agrees : (t u : ℕ) (S : Settings) → Within (ukrainianRanges S) → Within (ukrainianRanges (agreed t u S))
+agrees t u S w = (w .0, (agreed-number t u, (agreed-case S t u (w .1 .1 .0), tt)))
