@@ -1,17 +1,13 @@
 -- `uk_plan::group` meets its contract.
 -- Assumes nothing.
 use borrow.Author.Needs.{needs}
-use Prim.Native.Nat.{_/_, _%_}
 use Rattle.plan.proofs.Tells.{quiet, tell, retell}
-use Rattle.uk.specs.Ukrainian.{ukrainian}
-use Rattle.uk.specs.Cardinal.{groupOf}
-use Rattle.uk_plan.proofs.Cases.{low-at, noun-any, group-some}
+use Rattle.uk_plan.proofs.Cases.{group-some}
 use native.Mathlib.Omega.{arith}
 use Rattle.uk_plan.proofs.group.Statement.{statement}
 use Rattle.uk_plan.proofs.group.Tie as tie
 
 pub group-spec : {M : Type 1} → statement M
-unfolding groupOf ukrainian
 group-spec =
     tie.close
     (tie.spec
@@ -22,9 +18,7 @@ group-spec =
     (λ c.
     let a = c .before .before .before .before .before .before .before .before .before .before .before .before .before .before .before .before .args in
     let w = c .before .before .before .before .before .before .before .before .before .before .before .before .before .wide-group .ensures in
-    let l = rw (c .before .before .before .before .before .before .before .before .gender-at .ensures .0, w) at (c .before .before .before .before .before .before .low-words .ensures) in
-    let t = a .g / 10 % 10 in
-    let u = a .g % 10 in
+    let l = rw (c .before .before .before .before .before .before .before .before .at-order .ensures .0, w) at (c .before .before .before .before .before .before .low-words .ensures) in
     retell 5 (tell 5 (rw w at (c .before .before .before .before .before .before .before .before .before .before .before .hundred-word .ensures))
-    (tell 4 (retell 2 l (omega arith) (low-at (a .gender) (a .case) (a .order) t u)) (retell 2 (rw w at (c .before .before .noun-word .ensures)) (omega arith) (noun-any (a .gender) (a .case) (a .order) t u)) (omega arith)) (omega arith)) (omega arith)
-    (group-some (ukrainian (a .gender) (a .case)) (a .order) (a .g) (c .before .before .before .before .before .before .before .before .before .before .before .before .before .before .if1 .left))))
+    (tell 4 l (rw w at (c .before .before .noun-word .ensures)) (omega arith)) (omega arith)) (omega arith)
+    (group-some (a .settings) (a .order) (a .g) (c .before .before .before .before .before .before .before .before .before .before .before .before .before .before .if1 .left))))

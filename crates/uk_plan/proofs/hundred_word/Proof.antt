@@ -1,6 +1,7 @@
 -- `uk_plan::hundred_word` meets its contract.
 -- Assumes nothing.
 use borrow.Author.Needs.{needs}
+use Rattle.uk.specs.Ukrainian.{ukrainianDigits}
 use Rattle.plan.proofs.Tells.{quiet, retell, told-word}
 use Rattle.uk.specs.Pool.{ukPool}
 use Rattle.uk_plan.proofs.Cases.{opt-none, opt-some}
@@ -9,6 +10,7 @@ use Rattle.uk_plan.proofs.hundred_word.Statement.{statement}
 use Rattle.uk_plan.proofs.hundred_word.Tie as tie
 
 pub hundred-word-spec : {M : Type 1} → statement M
+unfolding ukrainianDigits
 hundred-word-spec =
     tie.close
     (tie.spec

@@ -3,14 +3,14 @@
 use borrow.Author.Needs.{needs}
 use Rattle.plan.proofs.Tells.{quiet, retell, told-ended}
 use Rattle.uk.specs.Pool.{ukPool}
-use Rattle.uk.specs.Ukrainian.{ukrainian, nounForm}
+use Rattle.uk.specs.Ukrainian.{scaleNoun}
 use Rattle.uk_plan.proofs.Cases.{noun-some}
 use native.Mathlib.Omega.{arith}
 use Rattle.uk_plan.proofs.noun_word.Statement.{statement}
 use Rattle.uk_plan.proofs.noun_word.Tie as tie
 
 pub noun-word-spec : {M : Type 1} → statement M
-unfolding ukrainian nounForm
+unfolding scaleNoun
 noun-word-spec =
     tie.close
     (tie.spec
@@ -21,5 +21,5 @@ noun-word-spec =
     (λ c.
     let s = c .before .before .before .before .before .before .before .before .before .before .before .before .before in
     let a = c .before .before .before .before .before .agreement .ensures .0 in
-    retell 2 (told-ended (c .before .before .before .before .before .before .before .before .push .ensures ukPool) (c .before .before .push2 .ensures ukPool) (c .before .before .before .before .before .before .before .before .before .scale .ensures) (rw (a .0, a .1) at (c .before .before .before .before .scale-ending .ensures))) (omega arith)
-    (noun-some (ukrainian 0 (s .args .case)) (s .args .order) (s .args .t) (s .args .u) (c .before .before .before .before .before .before .before .before .before .before .before .if1 .left))))
+    retell 2 (told-ended (c .before .before .before .before .before .before .before .before .push .ensures ukPool) (c .before .before .push2 .ensures ukPool) (c .before .before .before .before .before .before .before .before .before .scale .ensures) (rw a at (c .before .before .before .before .scale-ending .ensures))) (omega arith)
+    (noun-some (s .args .settings) (s .args .order) (s .args .t) (s .args .u) (c .before .before .before .before .before .before .before .before .before .before .before .if1 .left))))
