@@ -11,32 +11,33 @@ use lib.Dec.{ltb}
 use lib.IntN.{ℤ}
 use lib.ListN.{length, take, drop, set, length-append, length-drop}
 use lib.Seq.{take-all, take-append-seam, length-take-le, drop-append-add, drop-drop, set-split}
+use lib.Option.{none, some}
 use Rattle.base.specs.Buffer.{over}
-use Rattle.base.specs.Answer.{refused, bytes, fitted, replied, Answers}
+use Rattle.base.specs.Answer.{firstOf, Spelling, refused, bytes, fitted, unless, replied, Answers}
 use Rattle.base.specs.declared.Answer.{Answer}
+use Rattle.settings.specs.Settings.{ukrainianSettings, frenchSettings, ukrainianRanges, frenchRanges, within}
+use Rattle.settings.specs.declared.Settings.{Settings}
 use Rattle.figures.specs.Text.{value, negative, unsigned, wellFormed}
-use Rattle.figures.specs.Refusals.{judged, judgeYear, refusalOf}
+use Rattle.figures.specs.Refusals.{yearRefusals}
 use Rattle.figures.specs.Year.{yearOf, yearLimit}
-use Rattle.figures.specs.declared.Judged.{Judged}
-use Rattle.figures.specs.declared.Judged.the-variants.{Fine, Malformed, Negative, Large}
-use Rattle.uk.specs.Settings.{inRange, unlessSettings}
-use Rattle.uk_ordinal_calls.specs.Calls.{yearPhrase}
-use Rattle.fr.specs.Settings.{french}
-use Rattle.fr_calls.specs.Calls.{inRange as inFrenchRange}
-use Rattle.phrases_forms.specs.Line.{first, rest, kindOf, languageOf, genderOf, grammaticalNumberOf, caseOf, feminineOf, reformedOf, regionOf, closed}
+use Rattle.uk_ordinal_calls.specs.UkOrdinals.{ukToYear}
+use Rattle.phrases_forms.specs.Line.{kindOf, languageOf, genderOf, grammaticalNumberOf, caseOf, feminineOf, reformedOf, regionOf, closed}
+use Rattle.phrases_forms.specs.Cuts.{firstWord, afterSpace}
 use Rattle.phrases_forms.specs.declared.Kind.{Kind}
 use Rattle.phrases_forms.specs.declared.Language.{Language}
 use Rattle.phrases_forms.specs.declared.Language.the-variants.{Ukrainian, French}
-use Rattle.phrases_answers.specs.Answers.{told, badLine, ukrainianForm, frenchForm, settled, answerLine}
+use Rattle.phrases_answers.specs.Answers.{lineOf, badLine, answerTo, yearText, answerLine}
+use Rattle.phrases_answers.specs.Left.{ukrainianLeft, frenchLeft, afterThree, settledLeft}
 use Rattle.phrases_answers.specs.Wrote.{Wrote}
+use Rattle.phrases_answers.proofs.Forms.{form-is}
 
 -- what a line's writer promises, without the record
 pub plainly : {a : List ℕ} {r : ℕ} {xs ys : List ℕ} → Wrote a r xs ys → ((r ≡ length a) × (ys ≡ over xs a)) × (r ≤ 12321)
 plainly w = ((w .size, w .bytes), w .room)
 
 -- where a line refuses, it is the same whatever the phrase
-told-any : (n : ℕ) (a b : List ℕ) → (n ≡ 0 → ⊥) → told n a ≡ told n b
-told-any n a b z = rw (ne-eqb n 0 z) refl
+line-any : (n : ℕ) (a b : List ℕ) → (n ≡ 0 → ⊥) → lineOf n a ≡ lineOf n b
+line-any n a b z = rw (ne-eqb n 0 z) refl
 
 -- a line over what begins as the line does
 over-over : (b t xs : List ℕ) → over (over xs b) (b ++ t) ≡ over xs (b ++ t)
@@ -44,7 +45,7 @@ over-over b t xs =
     ap (λ (l : List ℕ). (b ++ t) ++ l) (rw length-append (drop-append-add b (drop (length b) xs) (length t) ∙ drop-drop (length t) (length b) xs))
 
 -- the phrase at the front of a buffer gets its line feed
-pub line-fed : (n l : ℕ) (xs : List ℕ) → n ≡ 0 → l ≤ 12320 → l < length xs → Wrote (told n (take l xs)) (l + 1) xs (set xs l 10)
+pub line-fed : (n l : ℕ) (xs : List ℕ) → n ≡ 0 → l ≤ 12320 → l < length xs → Wrote (lineOf n (take l xs)) (l + 1) xs (set xs l 10)
 line-fed n l xs e h f =
     let p : List ℕ = take l xs ++ (10 ∷ []) in
     let s : length p ≡ l + 1 = length-append (take l xs) (10 ∷ []) ∙ ap (λ (k : ℕ). k + 1) (length-take-le l xs (omega arith)) in
@@ -62,46 +63,49 @@ module _ (a : Answer) (b xs ys : List ℕ) (short : a .length ≤ 12320) (room :
   fits e = go (ltb (length xs) (length b)) refl e
     where
       go : (t : Bool) → ltb (length xs) (length b) ≡ t → Answers a xs ys (cond t (refused 7 (length b)) (bytes b)) → (a .number ≡ 0) × ((a .length ≡ length b) × (ys ≡ over xs b))
-      go true p q = let l = ltb-true (length xs) (length b) p in absurd (omega (arith, l, q .length))
-      go false p q = (q .number, (q .length, q .buffer))
+      go true p q = let l = ltb-true (length xs) (length b) p in absurd (omega (arith, l, q .sized))
+      go false p q = (q .reported, (q .sized, q .held))
 
-  pub small-number : (n : ℕ) → n < 8 → Answers a xs ys (replied n b xs) → a .number < 10
+  pub small-number : (n : ℕ) → n < 100 → Answers a xs ys (unless n (fitted xs b)) → a .number < 100
   small-number zero h e = omega (arith, fits e .0)
-  small-number (suc n) h e = omega (arith, e .number)
+  small-number (suc n) h e = omega (arith, e .reported)
 
-  pub told-line : (n r : ℕ) (zs : List ℕ) → Answers a xs ys (replied n b xs) → Wrote (told (a .number) (take (a .length) ys)) r ys zs → Wrote (told n b) r xs zs
-  told-line zero r zs e w =
+  pub line-told : (n r : ℕ) (zs : List ℕ) → Answers a xs ys (unless n (fitted xs b)) → Wrote (lineOf (a .number) (take (a .length) ys)) r ys zs → Wrote (lineOf n b) r xs zs
+  line-told zero r zs e w =
       let p = fits e in
       let q : take (a .length) ys ≡ b = rw (p .1 .0, p .1 .1) (take-append-seam b (drop (length b) xs)) in
       let v : Wrote (b ++ (10 ∷ [])) r ys zs = rw (p .0, q) at w in
       record { size = v .size; room = v .room; bytes = v .bytes ∙ rw (p .1 .1) (over-over b (10 ∷ []) xs) }
-  told-line (suc n) r zs e w =
-      let v : Wrote (told (suc n) (take (a .length) xs)) r xs zs = rw (e .number, e .buffer) at w in
-      subst (λ (x : List ℕ). Wrote x r xs zs) (told-any (suc n) (take (a .length) xs) b (λ (z : suc n ≡ 0). omega arith)) v
+  line-told (suc n) r zs e w =
+      let v : Wrote (lineOf (suc n) (take (a .length) xs)) r xs zs = rw (e .reported, e .held) at w in
+      subst (λ (x : List ℕ). Wrote x r xs zs) (line-any (suc n) (take (a .length) xs) b (λ (z : suc n ≡ 0). omega arith)) v
 
   -- the same, where the form has its text
-  pub spoken : (t : Bool) (n r : ℕ) (zs : List ℕ) → t ≡ true → Answers a xs ys (replied n b xs) → Wrote (told (a .number) (take (a .length) ys)) r ys zs → Wrote (cond t (told n b) badLine) r xs zs
-  spoken t n r zs e p f = rw e (told-line n r zs p f)
+  pub spoken : (t : Bool) (n r : ℕ) (zs : List ℕ) → t ≡ true → Answers a xs ys (unless n (fitted xs b)) → Wrote (lineOf (a .number) (take (a .length) ys)) r ys zs → Wrote (answerTo (cond t (some (record { refusal = n; phrase = b })) none)) r xs zs
+  spoken t n r zs e p f = rw e (line-told n r zs p f)
 
-pub told-refusal : (n m : ℕ) (b : List ℕ) (r : ℕ) (xs ys : List ℕ) → m ≡ n → (m ≡ 0 → ⊥) → Wrote (told m []) r xs ys → Wrote (told n b) r xs ys
-told-refusal n m b r xs ys e z w = subst (λ (x : List ℕ). Wrote x r xs ys) (told-any m [] b z ∙ ap (λ (k : ℕ). told k b) e) w
+pub line-refused : (n m : ℕ) (b : List ℕ) (r : ℕ) (xs ys : List ℕ) → m ≡ n → (m ≡ 0 → ⊥) → Wrote (lineOf m []) r xs ys → Wrote (lineOf n b) r xs ys
+line-refused n m b r xs ys e z w = subst (λ (x : List ℕ). Wrote x r xs ys) (line-any m [] b z ∙ ap (λ (k : ℕ). lineOf k b) e) w
 
-pub spoken-as : (t : Bool) (x : List ℕ) (r : ℕ) (xs ys : List ℕ) → t ≡ true → Wrote x r xs ys → Wrote (cond t x badLine) r xs ys
-spoken-as t x r xs ys e w = rw e w
+pub spoken-as : (t : Bool) (S : Spelling) (r : ℕ) (xs ys : List ℕ) → t ≡ true → Wrote (answerTo (some S)) r xs ys → Wrote (answerTo (cond t (some S) none)) r xs ys
+spoken-as t S r xs ys e w = rw e w
 
-pub unspoken : (t : Bool) (x : List ℕ) (r : ℕ) (xs ys : List ℕ) → t ≡ false → Wrote badLine r xs ys → Wrote (cond t x badLine) r xs ys
-unspoken t x r xs ys e w = rw e w
+pub unspoken : (t : Bool) (S : Spelling) (r : ℕ) (xs ys : List ℕ) → t ≡ false → Wrote badLine r xs ys → Wrote (answerTo (cond t (some S) none)) r xs ys
+unspoken t S r xs ys e w = rw e w
 
--- every refusal of a text is a digit
-pub judged-small : (j : Judged) → refusalOf j < 8
-judged-small Fine = omega arith
-judged-small Malformed = omega arith
-judged-small Negative = omega arith
-judged-small Large = omega arith
+-- every number of a list of conditions is small
+pub Small : List (Bool × ℕ) → Type 0
+Small [] = Unit {0}
+Small (c ∷ cs) = (c .1 < 100) × Small cs
 
-pub cond-small : (t : Bool) (x y : ℕ) → x < 8 → y < 8 → cond t x y < 8
-cond-small true x y h k = h
-cond-small false x y h k = k
+pub first-small : (cs : List (Bool × ℕ)) → Small cs → firstOf cs < 100
+unfolding Small
+first-small [] w = omega arith
+first-small (c ∷ cs) w = go (c .0)
+  where
+    go : (t : Bool) → cond t (c .1) (firstOf cs) < 100
+    go true = w .0
+    go false = first-small cs (w .1)
 
 -- what ends in a bracket is not empty
 pub closed-some : (s : List ℕ) → closed s ≡ true → 0 < length s
@@ -116,47 +120,52 @@ tail p s = take-all (length s - p) (drop p s) (rw length-drop (omega arith))
 clash : {A : Type 0} (n : ℕ) → suc n ≡ 0 → A
 clash n e = absurd (omega arith)
 
-pub year-fine : (t : List ℕ) → refusalOf (judgeYear t) ≡ 0 → (wellFormed t ≡ true) × (value (unsigned t) ≤ yearLimit (negative t))
+pub year-fine : (t : List ℕ) → firstOf (yearRefusals t) ≡ 0 → (wellFormed t ≡ true) × (value (unsigned t) ≤ yearLimit (negative t))
 year-fine t e = go (wellFormed t) (ltb (yearLimit (negative t)) (value (unsigned t))) refl refl e
   where
-    go : (w l : Bool) → wellFormed t ≡ w → ltb (yearLimit (negative t)) (value (unsigned t)) ≡ l → refusalOf (judged (not w) false l) ≡ 0
+    go : (w l : Bool) → wellFormed t ≡ w → ltb (yearLimit (negative t)) (value (unsigned t)) ≡ l → cond (not w) 3 (cond l 5 0) ≡ 0
         → (wellFormed t ≡ true) × (value (unsigned t) ≤ yearLimit (negative t))
     go false l p q r = clash 2 r
     go true true p q r = clash 4 r
     go true false p q r = (p, ltb-false (yearLimit (negative t)) (value (unsigned t)) q)
 
-pub year-asked : (g n c : ℕ) (t : List ℕ) (y : ℤ) {a : Answer} {xs ys : List ℕ} → inRange g n c ≡ true → y ≡ yearOf t
-    → Answers a xs ys (replied (unlessSettings g n c 0) (yearPhrase n c y) xs) → Answers a xs ys (replied 0 (yearPhrase n c (yearOf t)) xs)
-year-asked g n c t y i e a = rw (i, e) at a
+-- under settings in their ranges
+module _ (S : Settings) (t : List ℕ) (i : within (ukrainianRanges S) ≡ true) where
+  pub year-refusal : yearText S t .refusal ≡ firstOf (yearRefusals t)
+  year-refusal = rw i refl
+
+  pub year-asked : (y : ℤ) {a : Answer} {xs ys : List ℕ} → y ≡ yearOf t → Answers a xs ys (replied (ukToYear S y) xs) → Answers a xs ys (fitted xs (yearText S t .phrase))
+  year-asked y {xs = xs} e a = rw i at (rw e at a)
 
 -- from the settings' words to the form
 module _ (k : Kind) (s t : List ℕ) (x y z r : ℕ) (xs ys : List ℕ) where
-  pub settle-uk : x ≡ genderOf (first s) → y ≡ grammaticalNumberOf (first (rest s)) → z ≡ caseOf (first (rest (rest s))) → t ≡ rest (rest (rest s))
-      → inRange x y z ≡ true → Wrote (ukrainianForm k x y z t) r xs ys → Wrote (settled k Ukrainian s) r xs ys
-  unfolding settled
+  pub settle-uk : x ≡ genderOf (firstWord s) → y ≡ grammaticalNumberOf (firstWord (afterSpace s)) → z ≡ caseOf (firstWord (afterSpace (afterSpace s))) → t ≡ afterThree s
+      → within (ukrainianRanges (ukrainianSettings x y z)) ≡ true → Wrote (answerTo (ukrainianLeft k (ukrainianSettings x y z) t)) r xs ys → Wrote (answerTo (settledLeft k Ukrainian s)) r xs ys
+  unfolding settledLeft
   settle-uk ex ey ez et i w = rw (← ex, ← ey, ← ez, ← et, i) w
 
-  pub settle-fr : x ≡ feminineOf (first s) → y ≡ reformedOf (first (rest s)) → z ≡ regionOf (first (rest (rest s))) → t ≡ rest (rest (rest s))
-      → inFrenchRange (french x y z) ≡ true → Wrote (frenchForm k x y z t) r xs ys → Wrote (settled k French s) r xs ys
-  unfolding settled
+  pub settle-fr : x ≡ feminineOf (firstWord s) → y ≡ reformedOf (firstWord (afterSpace s)) → z ≡ regionOf (firstWord (afterSpace (afterSpace s))) → t ≡ afterThree s
+      → within (frenchRanges (frenchSettings x y z)) ≡ true → Wrote (answerTo (frenchLeft k (frenchSettings x y z) t)) r xs ys → Wrote (answerTo (settledLeft k French s)) r xs ys
+  unfolding settledLeft
   settle-fr ex ey ez et i w = rw (← ex, ← ey, ← ez, ← et, i) w
 
 module _ (k : Kind) (s : List ℕ) (x y z r : ℕ) (xs ys : List ℕ) where
-  pub unsettled-uk : x ≡ genderOf (first s) → y ≡ grammaticalNumberOf (first (rest s)) → z ≡ caseOf (first (rest (rest s)))
-      → inRange x y z ≡ false → Wrote badLine r xs ys → Wrote (settled k Ukrainian s) r xs ys
-  unfolding settled
+  pub unsettled-uk : x ≡ genderOf (firstWord s) → y ≡ grammaticalNumberOf (firstWord (afterSpace s)) → z ≡ caseOf (firstWord (afterSpace (afterSpace s)))
+      → within (ukrainianRanges (ukrainianSettings x y z)) ≡ false → Wrote badLine r xs ys → Wrote (answerTo (settledLeft k Ukrainian s)) r xs ys
+  unfolding settledLeft
   unsettled-uk ex ey ez i w = rw (← ex, ← ey, ← ez, i) w
 
-  pub unsettled-fr : x ≡ feminineOf (first s) → y ≡ reformedOf (first (rest s)) → z ≡ regionOf (first (rest (rest s)))
-      → inFrenchRange (french x y z) ≡ false → Wrote badLine r xs ys → Wrote (settled k French s) r xs ys
-  unfolding settled
+  pub unsettled-fr : x ≡ feminineOf (firstWord s) → y ≡ reformedOf (firstWord (afterSpace s)) → z ≡ regionOf (firstWord (afterSpace (afterSpace s)))
+      → within (frenchRanges (frenchSettings x y z)) ≡ false → Wrote badLine r xs ys → Wrote (answerTo (settledLeft k French s)) r xs ys
+  unfolding settledLeft
   unsettled-fr ex ey ez i w = rw (← ex, ← ey, ← ez, i) w
 
 -- from the line to its settings
-pub line-is : (s t u : List ℕ) (k : Kind) (l : Language) (r : ℕ) (xs ys : List ℕ) → length s ≤ 512 → k ≡ kindOf (first s) → t ≡ rest s → l ≡ languageOf (first t)
-    → u ≡ rest t → Wrote (settled k l u) r xs ys → Wrote (answerLine s) r xs ys
+pub line-is : (s t u : List ℕ) (k : Kind) (l : Language) (r : ℕ) (xs ys : List ℕ) → length s ≤ 512 → k ≡ kindOf (firstWord s) → t ≡ afterSpace s → l ≡ languageOf (firstWord t)
+    → u ≡ afterSpace t → Wrote (answerTo (settledLeft k l u)) r xs ys → Wrote (answerLine s) r xs ys
 unfolding answerLine
-line-is s t u k l r xs ys h ek et el eu w = rw (le-leb (length s) 512 h, ← ek, ← et, ← el, ← eu) w
+line-is s t u k l r xs ys h ek et el eu w =
+    rw (le-leb (length s) 512 h, form-is s, ← ek, ← et, ← el, ← eu) w
 
 pub long-line : (s : List ℕ) (r : ℕ) (xs ys : List ℕ) → 512 < length s → Wrote badLine r xs ys → Wrote (answerLine s) r xs ys
 unfolding answerLine

@@ -1,92 +1,101 @@
 -- What the program writes to a line (01, "The program phrases"): the form of the line, then the definition of the call that it asks for.
 -- Assumes nothing.
-use Prim.Native.Nat.{ℕ, _+_}
-use mathlib.Core.Bool.{cond, _&&_}
+use Prim.Native.Nat.{ℕ, _+_, _/_, _%_}
+use mathlib.Core.Bool.{cond}
 use mathlib.Core.List.{List, [], _∷_, _++_}
-use lib.Dec.{eqb, leb}
+use lib.Dec.{eqb, leb, ltb}
 use lib.ListN.{length}
+use lib.Option.{Option, none, some}
+use Rattle.base.specs.Answer.{Spelling, firstOf}
 use Rattle.base.specs.Join.{Word}
 use Rattle.base.specs.Utf8.{utf8}
-use Rattle.figures.specs.Refusals.{judgeYear, refusalOf}
+use Rattle.settings.specs.Settings.{ukrainianSettings, frenchSettings, ukrainianRanges, frenchRanges, within}
+use Rattle.settings.specs.Refused.{outOfRange}
+use Rattle.settings.specs.declared.Settings.{Settings}
+use Rattle.figures.specs.Refusals.{yearRefusals}
 use Rattle.figures.specs.Year.{yearOf}
-use Rattle.uk.specs.Settings.{inRange, unlessSettings}
-use Rattle.uk_money.specs.Codes.{currencyOf}
-use Rattle.uk_calls.specs.Cardinals.{refusedCardinal, cardinal}
-use Rattle.uk_ordinal_calls.specs.Calls.{refusedOrdinal, refusedDigitOrdinal, ordinalPhrase, yearPhrase}
-use Rattle.uk_ordinal.specs.DigitOrdinal.{digitOrdinal}
-use Rattle.uk_money_calls.specs.MoneyCalls.{refusedAmount, moneyPhrase}
-use Rattle.fr.specs.Settings.{french}
-use Rattle.fr_calls.specs.Calls.{firstRefusal, cardinalRefusal, ordinalRefusal, cardinalOf, ordinalOf, inRange as inFrenchRange}
-use Rattle.phrases_forms.specs.Line.{first, rest, kindOf, languageOf, genderOf, grammaticalNumberOf, caseOf, feminineOf, reformedOf, regionOf, run, inner, closed}
+use Rattle.uk_calls.specs.UkCardinals.{ukToCardinal}
+use Rattle.uk_ordinal_calls.specs.UkOrdinals.{ukToOrdinal, ukToOrdinalNum, ukToYear}
+use Rattle.uk_money_calls.specs.MoneyCalls.{ukToCurrency}
+use Rattle.fr_calls.specs.FrCalls.{frToCardinal, frToOrdinal}
+use Rattle.phrases_forms.specs.Line.{wordsOf, kindOf, languageOf, genderOf, grammaticalNumberOf, caseOf, feminineOf, reformedOf, regionOf, run, inner, closed}
 use Rattle.phrases_forms.specs.declared.Kind.{Kind}
 use Rattle.phrases_forms.specs.declared.Kind.the-variants.{Card, Ord, Num, Year, Money, Other}
 use Rattle.phrases_forms.specs.declared.Language.{Language}
 use Rattle.phrases_forms.specs.declared.Language.the-variants.{Ukrainian, French, Neither}
 
+-- the number text of a number below 100: a refusal's
+abbrev pub numeral : ℕ → List ℕ
+numeral n = cond (ltb n 10) ((48 + n) ∷ []) ((48 + n / 10) ∷ (48 + n % 10) ∷ [])
+
 -- "the phrase, `refused` and a number": the line of the refusal n, or where n is 0 of the phrase
-abbrev pub told : ℕ → List ℕ → List ℕ
-told n phrase = cond (eqb n 0) (phrase ++ (10 ∷ [])) (utf8 "refused " ++ ((48 + n) ∷ 10 ∷ []))
+abbrev pub lineOf : ℕ → List ℕ → List ℕ
+lineOf n phrase = cond (eqb n 0) (phrase ++ (10 ∷ [])) (utf8 "refused " ++ (numeral n ++ (10 ∷ [])))
 
 -- "Every other line, also an empty one, is a `bad line`"
 abbrev pub badLine : List ℕ
 badLine = utf8 "bad line" ++ (10 ∷ [])
 
--- the line of a form of which s is left, where that is a text and the bracket that closes the form
-abbrev pub ifClosed : List ℕ → List ℕ → List ℕ
-ifClosed s line = cond (closed s) line badLine
+-- what is written to a form of a call, and to what is no form
+abbrev pub answerTo : Option Spelling → List ℕ
+answerTo none = badLine
+answerTo (some S) = lineOf (S .refusal) (S .phrase)
 
--- an amount with this code, of which s is left: a text and the closing bracket
-unfoldable pub amountForm : ℕ → ℕ → ℕ → List ℕ → List ℕ → List ℕ
-amountForm gender number case code s =
-    cond (run code && closed s) (told (refusedAmount gender number case code (inner s)) (moneyPhrase (currencyOf code) case (inner s))) badLine
+-- the last words of a form whose call takes a text: the text, with the bracket that closes the form
+abbrev pub textForm : (List ℕ → Spelling) → List Word → Option Spelling
+textForm call [] = none
+textForm call (w ∷ []) = cond (closed w) (some (call (inner w))) none
+textForm call (w ∷ v ∷ ws) = none
 
--- a Ukrainian form of a kind, with settings in their ranges, of which s is left: a text and the closing bracket; "money (code before text)"
-unfoldable pub ukrainianForm : Kind → ℕ → ℕ → ℕ → List ℕ → List ℕ
-ukrainianForm Card gender number case s = ifClosed s (told (refusedCardinal gender number case (inner s)) (cardinal gender case (inner s)))
-ukrainianForm Ord gender number case s =
-    ifClosed s (told (unlessSettings gender number case (refusedOrdinal (inner s))) (ordinalPhrase gender number case (inner s)))
-ukrainianForm Num gender number case s =
-    ifClosed s (told (unlessSettings gender number case (refusedDigitOrdinal (inner s))) (digitOrdinal gender number case (inner s)))
-ukrainianForm Year gender number case s = ifClosed s (told (refusalOf (judgeYear (inner s))) (yearPhrase number case (yearOf (inner s))))
-ukrainianForm Money gender number case s = amountForm gender number case (first s) (rest s)
-ukrainianForm Other gender number case s = badLine
+-- of one whose call takes a code and a text: "money (code before text)"
+abbrev pub codeForm : (List ℕ → List ℕ → Spelling) → List Word → Option Spelling
+codeForm call [] = none
+codeForm call (w ∷ ws) = cond (run w) (textForm (call w) ws) none
 
--- the same of a French form: "French has card and ord"
-unfoldable pub frenchForm : Kind → ℕ → ℕ → ℕ → List ℕ → List ℕ
-frenchForm Card feminine reformed region s =
-    ifClosed s
-    (told (firstRefusal (french feminine reformed region) (cardinalRefusal (inner s))) (cardinalOf (french feminine reformed region) (inner s)))
-frenchForm Ord feminine reformed region s =
-    ifClosed s (told (firstRefusal (french feminine reformed region) (ordinalRefusal (inner s))) (ordinalOf (french feminine reformed region) (inner s)))
-frenchForm Num feminine reformed region s = badLine
-frenchForm Year feminine reformed region s = badLine
-frenchForm Money feminine reformed region s = badLine
-frenchForm Other feminine reformed region s = badLine
+-- a year's text: "A malformed year is refused 3, one beyond 64 signed bits 5"
+abbrev pub yearText : Settings → List ℕ → Spelling
+yearText S t = record { refusal = firstOf (outOfRange (ukrainianRanges S) ∷ yearRefusals t); phrase = ukToYear S (yearOf t) .phrase }
 
--- the second word of what is left of a line
-abbrev pub second : List ℕ → Word
-second s = first (rest s)
+-- the last words of a Ukrainian form of each kind
+unfoldable pub ukrainianForm : Kind → Settings → List Word → Option Spelling
+ukrainianForm Card S ws = textForm (ukToCardinal S) ws
+ukrainianForm Ord S ws = textForm (ukToOrdinal S) ws
+ukrainianForm Num S ws = textForm (ukToOrdinalNum S) ws
+ukrainianForm Year S ws = textForm (yearText S) ws
+ukrainianForm Money S ws = codeForm (ukToCurrency S) ws
+ukrainianForm Other S ws = none
 
--- the third
-abbrev pub third : List ℕ → Word
-third s = first (rest (rest s))
+-- of a French one: "French has card and ord"
+unfoldable pub frenchForm : Kind → Settings → List Word → Option Spelling
+frenchForm Card S ws = textForm (frToCardinal S) ws
+frenchForm Ord S ws = textForm (frToOrdinal S) ws
+frenchForm Num S ws = none
+frenchForm Year S ws = none
+frenchForm Money S ws = none
+frenchForm Other S ws = none
 
--- what stands behind three words
-abbrev pub afterThree : List ℕ → List ℕ
-afterThree s = rest (rest (rest s))
+-- the settings that three words name, in each language; a word that is no name is out of range
+abbrev pub ukrainianNamed : Word → Word → Word → Settings
+ukrainianNamed a b c = ukrainianSettings (genderOf a) (grammaticalNumberOf b) (caseOf c)
 
--- a form of which the settings' three words and what follows them are left; a name that is no setting makes a bad line
-unfoldable pub settled : Kind → Language → List ℕ → List ℕ
-settled k Ukrainian s =
-    cond (inRange (genderOf (first s)) (grammaticalNumberOf (second s)) (caseOf (third s)))
-    (ukrainianForm k (genderOf (first s)) (grammaticalNumberOf (second s)) (caseOf (third s)) (afterThree s))
-    badLine
-settled k French s =
-    cond (inFrenchRange (french (feminineOf (first s)) (reformedOf (second s)) (regionOf (third s))))
-    (frenchForm k (feminineOf (first s)) (reformedOf (second s)) (regionOf (third s)) (afterThree s))
-    badLine
-settled k Neither s = badLine
+abbrev pub frenchNamed : Word → Word → Word → Settings
+frenchNamed a b c = frenchSettings (feminineOf a) (reformedOf b) (regionOf c)
 
--- "one bracket form a line of at most 512 bytes": kind, language, settings, text
+-- a form of a language and a kind with three words of settings and the last words
+unfoldable pub settled : Language → Kind → Word → Word → Word → List Word → Option Spelling
+settled Ukrainian k a b c ws = cond (within (ukrainianRanges (ukrainianNamed a b c))) (ukrainianForm k (ukrainianNamed a b c) ws) none
+settled French k a b c ws = cond (within (frenchRanges (frenchNamed a b c))) (frenchForm k (frenchNamed a b c) ws) none
+settled Neither k a b c ws = none
+
+-- what the words of a line ask for: kind, language, three settings, and the rest
+unfoldable pub form : List Word → Option Spelling
+form (k ∷ l ∷ a ∷ b ∷ c ∷ ws) = settled (languageOf l) (kindOf k) a b c ws
+form (k ∷ l ∷ a ∷ b ∷ []) = none
+form (k ∷ l ∷ a ∷ []) = none
+form (k ∷ l ∷ []) = none
+form (k ∷ []) = none
+form [] = none
+
+-- "one bracket form a line of at most 512 bytes"
 unfoldable pub answerLine : List ℕ → List ℕ
-answerLine s = cond (leb (length s) 512) (settled (kindOf (first s)) (languageOf (second s)) (rest (rest s))) badLine
+answerLine s = cond (leb (length s) 512) (answerTo (form (wordsOf s))) badLine

@@ -7,13 +7,15 @@ ghost use Prim.Native.Nat.{_≤_};
 ghost use lib.ListN.{length};
 ghost use Rattle.phrases_forms.specs.declared.Kind.the-variants.{Card, Ord};
 ghost use Rattle.phrases_forms.specs.declared.Language.the-variants.{French as FrenchLanguage};
-ghost use Rattle.phrases_answers.specs.Answers.{frenchForm, settled};
+ghost use Rattle.settings.specs.Settings.{frenchSettings};
+ghost use Rattle.phrases_answers.specs.Answers.{answerTo};
+ghost use Rattle.phrases_answers.specs.Left.{frenchLeft, settledLeft};
 ghost use Rattle.phrases_answers.specs.Wrote.{Wrote};
 
 // A cardinal's form.
 fn card(feminine: u32, reformed: u32, region: u32, s: &[u8], out: &mut [u8]) -> usize
     requires { ⌜ 12321 ≤ length (now out) ⌝ }
-    ensures { λ r. ⌜ Wrote (frenchForm Card feminine reformed region (now (s .entry))) r (now (out .entry)) (now (out .exit)) ⌝ }
+    ensures { λ r. ⌜ Wrote (answerTo (frenchLeft Card (frenchSettings feminine reformed region) (now (s .entry)))) r (now (out .entry)) (now (out .exit)) ⌝ }
 {
     if is_closed(s) {
         let e = s.len() - 1;
@@ -26,7 +28,7 @@ fn card(feminine: u32, reformed: u32, region: u32, s: &[u8], out: &mut [u8]) -> 
 // An ordinal's.
 fn ord(feminine: u32, reformed: u32, region: u32, s: &[u8], out: &mut [u8]) -> usize
     requires { ⌜ 12321 ≤ length (now out) ⌝ }
-    ensures { λ r. ⌜ Wrote (frenchForm Ord feminine reformed region (now (s .entry))) r (now (out .entry)) (now (out .exit)) ⌝ }
+    ensures { λ r. ⌜ Wrote (answerTo (frenchLeft Ord (frenchSettings feminine reformed region) (now (s .entry)))) r (now (out .entry)) (now (out .exit)) ⌝ }
 {
     if is_closed(s) {
         let e = s.len() - 1;
@@ -39,7 +41,7 @@ fn ord(feminine: u32, reformed: u32, region: u32, s: &[u8], out: &mut [u8]) -> u
 // The form of a kind.
 fn form(kind: Kind, feminine: u32, reformed: u32, region: u32, s: &[u8], out: &mut [u8]) -> usize
     requires { ⌜ 12321 ≤ length (now out) ⌝ }
-    ensures { λ r. ⌜ Wrote (frenchForm kind feminine reformed region (now (s .entry))) r (now (out .entry)) (now (out .exit)) ⌝ }
+    ensures { λ r. ⌜ Wrote (answerTo (frenchLeft kind (frenchSettings feminine reformed region) (now (s .entry)))) r (now (out .entry)) (now (out .exit)) ⌝ }
 {
     match kind {
         Kind::Card => card(feminine, reformed, region, s, out),
@@ -54,7 +56,7 @@ fn form(kind: Kind, feminine: u32, reformed: u32, region: u32, s: &[u8], out: &m
 // A form of which the settings and what follows them are left.
 pub fn settle(kind: Kind, s: &[u8], out: &mut [u8]) -> usize
     requires { ⌜ 12321 ≤ length (now out) ⌝ }
-    ensures { λ r. ⌜ Wrote (settled kind FrenchLanguage (now (s .entry))) r (now (out .entry)) (now (out .exit)) ⌝ }
+    ensures { λ r. ⌜ Wrote (answerTo (settledLeft kind FrenchLanguage (now (s .entry)))) r (now (out .entry)) (now (out .exit)) ⌝ }
 {
     let w = phrases_forms::settings::french(s);
     let at = w.next;

@@ -10,7 +10,8 @@ ghost use mathlib.Core.Path.{_≡_};
 ghost use Prim.Native.Nat.{_≤_};
 ghost use lib.ListN.{length};
 ghost use Rattle.base.specs.Buffer.{over};
-ghost use Rattle.phrases_answers.specs.Answers.{settled, answerLine};
+ghost use Rattle.phrases_answers.specs.Answers.{answerTo, answerLine};
+ghost use Rattle.phrases_answers.specs.Left.{settledLeft};
 ghost use Rattle.phrases_answers.specs.Wrote.{Wrote};
 
 // The bytes of the longest line that has an answer but `bad line`.
@@ -19,7 +20,7 @@ pub const LONGEST_LINE: usize = 512;
 // A form of which the settings and what follows them are left.
 fn settle(kind: Kind, language: Language, s: &[u8], out: &mut [u8]) -> usize
     requires { ⌜ 12321 ≤ length (now out) ⌝ }
-    ensures { λ r. ⌜ Wrote (settled kind language (now (s .entry))) r (now (out .entry)) (now (out .exit)) ⌝ }
+    ensures { λ r. ⌜ Wrote (answerTo (settledLeft kind language (now (s .entry)))) r (now (out .entry)) (now (out .exit)) ⌝ }
 {
     match language {
         Language::Ukrainian => ukrainian::settle(kind, s, out),

@@ -9,19 +9,19 @@ ghost use mathlib.Core.Path.{_≡_};
 ghost use mathlib.Core.Bool.{true};
 ghost use Prim.Native.Nat.{_≤_};
 ghost use lib.ListN.{length};
-ghost use Rattle.uk.specs.Settings.{inRange};
+ghost use Rattle.settings.specs.Settings.{ukrainianSettings, ukrainianRanges, within};
 ghost use Rattle.phrases_forms.specs.declared.Kind.the-variants.{Card, Ord, Num, Year, Money};
 ghost use Rattle.phrases_forms.specs.declared.Language.the-variants.{Ukrainian as UkrainianLanguage};
-ghost use Rattle.figures.specs.Refusals.{judgeYear, refusalOf};
-ghost use Rattle.figures.specs.Year.{yearOf};
-ghost use Rattle.uk_ordinal_calls.specs.Calls.{yearPhrase};
-ghost use Rattle.phrases_answers.specs.Answers.{told, amountForm, ukrainianForm, settled};
+ghost use lib.Option.{some};
+ghost use Rattle.uk_money_calls.specs.MoneyCalls.{ukToCurrency};
+ghost use Rattle.phrases_answers.specs.Answers.{answerTo, yearText};
+ghost use Rattle.phrases_answers.specs.Left.{codeLeft, ukrainianLeft, settledLeft};
 ghost use Rattle.phrases_answers.specs.Wrote.{Wrote};
 
 // A cardinal's form.
 fn card(gender: u32, number: u32, case: u32, s: &[u8], out: &mut [u8]) -> usize
     requires { ⌜ 12321 ≤ length (now out) ⌝ }
-    ensures { λ r. ⌜ Wrote (ukrainianForm Card gender number case (now (s .entry))) r (now (out .entry)) (now (out .exit)) ⌝ }
+    ensures { λ r. ⌜ Wrote (answerTo (ukrainianLeft Card (ukrainianSettings gender number case) (now (s .entry)))) r (now (out .entry)) (now (out .exit)) ⌝ }
 {
     if is_closed(s) {
         let e = s.len() - 1;
@@ -34,7 +34,7 @@ fn card(gender: u32, number: u32, case: u32, s: &[u8], out: &mut [u8]) -> usize
 // An ordinal's.
 fn ord(gender: u32, number: u32, case: u32, s: &[u8], out: &mut [u8]) -> usize
     requires { ⌜ 12321 ≤ length (now out) ⌝ }
-    ensures { λ r. ⌜ Wrote (ukrainianForm Ord gender number case (now (s .entry))) r (now (out .entry)) (now (out .exit)) ⌝ }
+    ensures { λ r. ⌜ Wrote (answerTo (ukrainianLeft Ord (ukrainianSettings gender number case) (now (s .entry)))) r (now (out .entry)) (now (out .exit)) ⌝ }
 {
     if is_closed(s) {
         let e = s.len() - 1;
@@ -47,7 +47,7 @@ fn ord(gender: u32, number: u32, case: u32, s: &[u8], out: &mut [u8]) -> usize
 // A digit ordinal's.
 fn num(gender: u32, number: u32, case: u32, s: &[u8], out: &mut [u8]) -> usize
     requires { ⌜ 12321 ≤ length (now out) ⌝ }
-    ensures { λ r. ⌜ Wrote (ukrainianForm Num gender number case (now (s .entry))) r (now (out .entry)) (now (out .exit)) ⌝ }
+    ensures { λ r. ⌜ Wrote (answerTo (ukrainianLeft Num (ukrainianSettings gender number case) (now (s .entry)))) r (now (out .entry)) (now (out .exit)) ⌝ }
 {
     if is_closed(s) {
         let e = s.len() - 1;
@@ -59,8 +59,8 @@ fn num(gender: u32, number: u32, case: u32, s: &[u8], out: &mut [u8]) -> usize
 
 // A year's text, as a year.
 fn say_year(gender: u32, number: u32, case: u32, text: &[u8], out: &mut [u8]) -> usize
-    requires { ⌜ (inRange gender number case ≡ true) × (12321 ≤ length (now out)) ⌝ }
-    ensures { λ r. ⌜ Wrote (told (refusalOf (judgeYear (now (text .entry)))) (yearPhrase number case (yearOf (now (text .entry))))) r (now (out .entry)) (now (out .exit)) ⌝ }
+    requires { ⌜ (within (ukrainianRanges (ukrainianSettings gender number case)) ≡ true) × (12321 ≤ length (now out)) ⌝ }
+    ensures { λ r. ⌜ Wrote (answerTo (some (yearText (ukrainianSettings gender number case) (now (text .entry))))) r (now (out .entry)) (now (out .exit)) ⌝ }
 {
     let n = figures::refusals::number_of(figures::refusals::judge_year(text));
     if n == 0 {
@@ -73,8 +73,8 @@ fn say_year(gender: u32, number: u32, case: u32, text: &[u8], out: &mut [u8]) ->
 
 // A year's.
 fn year(gender: u32, number: u32, case: u32, s: &[u8], out: &mut [u8]) -> usize
-    requires { ⌜ (inRange gender number case ≡ true) × (12321 ≤ length (now out)) ⌝ }
-    ensures { λ r. ⌜ Wrote (ukrainianForm Year gender number case (now (s .entry))) r (now (out .entry)) (now (out .exit)) ⌝ }
+    requires { ⌜ (within (ukrainianRanges (ukrainianSettings gender number case)) ≡ true) × (12321 ≤ length (now out)) ⌝ }
+    ensures { λ r. ⌜ Wrote (answerTo (ukrainianLeft Year (ukrainianSettings gender number case) (now (s .entry)))) r (now (out .entry)) (now (out .exit)) ⌝ }
 {
     if is_closed(s) {
         let e = s.len() - 1;
@@ -86,7 +86,7 @@ fn year(gender: u32, number: u32, case: u32, s: &[u8], out: &mut [u8]) -> usize
 // An amount's code, and its text with the closing bracket.
 fn amount(gender: u32, number: u32, case: u32, code: &[u8], t: &[u8], out: &mut [u8]) -> usize
     requires { ⌜ 12321 ≤ length (now out) ⌝ }
-    ensures { λ r. ⌜ Wrote (amountForm gender number case (now (code .entry)) (now (t .entry))) r (now (out .entry)) (now (out .exit)) ⌝ }
+    ensures { λ r. ⌜ Wrote (answerTo (codeLeft (ukToCurrency (ukrainianSettings gender number case)) (now (code .entry)) (now (t .entry)))) r (now (out .entry)) (now (out .exit)) ⌝ }
 {
     if is_run(code) {
         if is_closed(t) {
@@ -102,7 +102,7 @@ fn amount(gender: u32, number: u32, case: u32, code: &[u8], t: &[u8], out: &mut 
 // An amount's, with the code before the text.
 fn money(gender: u32, number: u32, case: u32, s: &[u8], out: &mut [u8]) -> usize
     requires { ⌜ 12321 ≤ length (now out) ⌝ }
-    ensures { λ r. ⌜ Wrote (ukrainianForm Money gender number case (now (s .entry))) r (now (out .entry)) (now (out .exit)) ⌝ }
+    ensures { λ r. ⌜ Wrote (answerTo (ukrainianLeft Money (ukrainianSettings gender number case) (now (s .entry)))) r (now (out .entry)) (now (out .exit)) ⌝ }
 {
     let k = phrases_forms::cut(s);
     let i = k.end;
@@ -112,8 +112,8 @@ fn money(gender: u32, number: u32, case: u32, s: &[u8], out: &mut [u8]) -> usize
 
 // The form of a kind, with settings in their ranges.
 fn form(kind: Kind, gender: u32, number: u32, case: u32, s: &[u8], out: &mut [u8]) -> usize
-    requires { ⌜ (inRange gender number case ≡ true) × (12321 ≤ length (now out)) ⌝ }
-    ensures { λ r. ⌜ Wrote (ukrainianForm kind gender number case (now (s .entry))) r (now (out .entry)) (now (out .exit)) ⌝ }
+    requires { ⌜ (within (ukrainianRanges (ukrainianSettings gender number case)) ≡ true) × (12321 ≤ length (now out)) ⌝ }
+    ensures { λ r. ⌜ Wrote (answerTo (ukrainianLeft kind (ukrainianSettings gender number case) (now (s .entry)))) r (now (out .entry)) (now (out .exit)) ⌝ }
 {
     match kind {
         Kind::Card => card(gender, number, case, s, out),
@@ -128,7 +128,7 @@ fn form(kind: Kind, gender: u32, number: u32, case: u32, s: &[u8], out: &mut [u8
 // A form of which the settings and what follows them are left.
 pub fn settle(kind: Kind, s: &[u8], out: &mut [u8]) -> usize
     requires { ⌜ 12321 ≤ length (now out) ⌝ }
-    ensures { λ r. ⌜ Wrote (settled kind UkrainianLanguage (now (s .entry))) r (now (out .entry)) (now (out .exit)) ⌝ }
+    ensures { λ r. ⌜ Wrote (answerTo (settledLeft kind UkrainianLanguage (now (s .entry)))) r (now (out .entry)) (now (out .exit)) ⌝ }
 {
     let w = phrases_forms::settings::ukrainian(s);
     let at = w.next;

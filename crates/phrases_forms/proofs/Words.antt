@@ -14,28 +14,29 @@ use Rattle.bytes.specs.Bytes.{indexOf, indexAfter, slice}
 use Rattle.base.specs.Front.{begins}
 use Rattle.base.specs.Same.{sameText}
 use Rattle.base.proofs.Fronts.{and-false}
-use Rattle.phrases_forms.specs.Line.{first, rest, free, run, closed, inner}
+use Rattle.phrases_forms.specs.Cuts.{firstWord, afterSpace}
+use Rattle.phrases_forms.specs.Line.{free, run, closed, inner}
 
 -- the first space of a line
 pub whole : (s : List ℕ) → slice 0 (length s) s ≡ s
 unfolding slice
 whole s = take-length s
 
-pub first-is : (s : List ℕ) → take (indexOf 32 s) s ≡ first s
-unfolding indexOf indexAfter first
+pub first-is : (s : List ℕ) → take (indexOf 32 s) s ≡ firstWord s
+unfolding indexOf indexAfter firstWord
 first-is [] = refl
 first-is (b ∷ s) = go (eqb b 32) (first-is s)
   where
-    go : (t : Bool) → take (indexOf 32 s) s ≡ first s → take (indexAfter t (indexOf 32 s)) (b ∷ s) ≡ cond t [] (b ∷ first s)
+    go : (t : Bool) → take (indexOf 32 s) s ≡ firstWord s → take (indexAfter t (indexOf 32 s)) (b ∷ s) ≡ cond t [] (b ∷ firstWord s)
     go true e = refl
     go false e = ap (λ (l : List ℕ). b ∷ l) e
 
-pub rest-is : (s : List ℕ) → drop (suc (indexOf 32 s)) s ≡ rest s
-unfolding indexOf indexAfter rest
+pub rest-is : (s : List ℕ) → drop (suc (indexOf 32 s)) s ≡ afterSpace s
+unfolding indexOf indexAfter afterSpace
 rest-is [] = refl
 rest-is (b ∷ s) = go (eqb b 32) (rest-is s)
   where
-    go : (t : Bool) → drop (suc (indexOf 32 s)) s ≡ rest s → drop (suc (indexAfter t (indexOf 32 s))) (b ∷ s) ≡ cond t s (rest s)
+    go : (t : Bool) → drop (suc (indexOf 32 s)) s ≡ afterSpace s → drop (suc (indexAfter t (indexOf 32 s))) (b ∷ s) ≡ cond t s (afterSpace s)
     go true e = refl
     go false e = e
 
@@ -46,13 +47,13 @@ module _ (s : List ℕ) (r : ℕ) (e : r ≡ 0 + indexOf 32 (slice 0 (length s) 
       let i : indexOf 32 (slice 0 (length s) s) ≡ indexOf 32 s = ap (indexOf 32) (whole s) in
       omega (arith, e, i)
 
-  pub first-at : take r s ≡ first s
+  pub first-at : take r s ≡ firstWord s
   first-at = ap (λ (n : ℕ). take n s) place ∙ first-is s
 
-  pub rest-at : drop (r + 1) s ≡ rest s
+  pub rest-at : drop (r + 1) s ≡ afterSpace s
   rest-at = rw add-one (ap (λ (n : ℕ). drop (suc n) s) place ∙ rest-is s)
 
-  pub rest-none : length s ≤ r → drop (length s) s ≡ rest s
+  pub rest-none : length s ≤ r → drop (length s) s ≡ afterSpace s
   rest-none h = drop-of-length-le s {i = length s} (omega arith) ∙ sym (drop-of-length-le s {i = r + 1} (omega arith)) ∙ rest-at
 
 -- the next word of a line of which t is left behind p
@@ -63,11 +64,11 @@ module _ (s t : List ℕ) (p e n : ℕ) (h : p ≤ length s) (d : drop p s ≡ t
   part-is : part ≡ t
   part-is = take-all (length s - p) (drop p s) (rw length-drop (omega arith)) ∙ d
 
-  pub word-at : take e part ≡ first part → take ((p + e) - p) (drop p s) ≡ first t
+  pub word-at : take e part ≡ firstWord part → take ((p + e) - p) (drop p s) ≡ firstWord t
   word-at c = let k : (p + e) - p ≡ e = omega arith in rw (k, d) (rw part-is at c)
 
-  pub left-at : drop n part ≡ rest part → drop (p + n) s ≡ rest t
-  left-at c = let l : drop n t ≡ rest t = rw part-is at c in sym (drop-drop n p s) ∙ ap (drop n) d ∙ l
+  pub left-at : drop n part ≡ afterSpace part → drop (p + n) s ≡ afterSpace t
+  left-at c = let l : drop n t ≡ afterSpace t = rw part-is at c in sym (drop-drop n p s) ∙ ap (drop n) d ∙ l
 
   pub near : n ≤ length part → p + n ≤ length s
   near c = let k : n ≤ length (drop p s) = rw (take-all (length s - p) (drop p s) (rw length-drop (omega arith))) at c in omega (arith, rw length-drop at k)

@@ -6,7 +6,7 @@ use mathlib.Core.Bool.{Bool, true, cond, not, _&&_}
 use mathlib.Core.List.{List, [], _∷_}
 use lib.Dec.{eqb}
 use lib.ListN.{length, getD, take}
-use Rattle.base.specs.Join.{Word}
+use Rattle.base.specs.Join.{Word, space}
 use Rattle.base.specs.Utf8.{utf8}
 use Rattle.base.specs.Same.{sameText}
 use Rattle.phrases_forms.specs.declared.Kind.{Kind}
@@ -14,20 +14,24 @@ use Rattle.phrases_forms.specs.declared.Kind.the-variants.{Card, Ord, Nu
 use Rattle.phrases_forms.specs.declared.Language.{Language}
 use Rattle.phrases_forms.specs.declared.Language.the-variants.{Ukrainian, French, Neither}
 
--- the first word of a line, up to its first space ("Single spaces"); brackets belong to the words that they open or close
-unfoldable pub first : List ℕ → Word
-first [] = []
-first (b ∷ s) = cond (eqb b 32) [] (b ∷ first s)
+-- a byte put before the first of some parts
+abbrev pub toFirst : ℕ → List (List ℕ) → List (List ℕ)
+toFirst b [] = (b ∷ []) ∷ []
+toFirst b (l ∷ ls) = (b ∷ l) ∷ ls
 
--- what stands behind the first space; nothing where there is none
-unfoldable pub rest : List ℕ → List ℕ
-rest [] = []
-rest (b ∷ s) = cond (eqb b 32) s (rest s)
+-- what a byte d divides: what stands before each d, and at last what is behind them all
+unfoldable pub divided : ℕ → List ℕ → List (List ℕ)
+divided d [] = [] ∷ []
+divided d (b ∷ s) = cond (eqb b d) ([] ∷ divided d s) (toFirst b (divided d s))
+
+-- the words of a line ("Single spaces"); brackets belong to the words that they open or close
+abbrev pub wordsOf : List ℕ → List Word
+wordsOf s = divided space s
 
 -- the place of a word among names, from 0 on; how many they are where it is none of them
-abbrev pub placeIn : List String → Word → ℕ
-placeIn [] w = 0
-placeIn (n ∷ ns) w = cond (sameText (utf8 n) w) 0 (suc (placeIn ns w))
+abbrev pub namePlace : List String → Word → ℕ
+namePlace [] w = 0
+namePlace (n ∷ ns) w = cond (sameText (utf8 n) w) 0 (suc (namePlace ns w))
 
 -- "Kinds: card, ord, num, year, money", with the bracket that opens the form
 unfoldable pub kindOf : Word → Kind
@@ -44,27 +48,27 @@ languageOf w = cond (sameText (utf8 "(uk") w) Ukrainian (cond (sameText (utf8 "(
 
 -- "`(uk m sing nom)` with m f n, sing plur, nom gen dat acc ins loc": 01's setting numbers, out of range for any other word; the gender
 unfoldable pub genderOf : Word → ℕ
-genderOf w = placeIn ("m" ∷ "f" ∷ "n" ∷ []) w
+genderOf w = namePlace ("m" ∷ "f" ∷ "n" ∷ []) w
 
 -- the grammatical number
 unfoldable pub grammaticalNumberOf : Word → ℕ
-grammaticalNumberOf w = placeIn ("sing" ∷ "plur" ∷ []) w
+grammaticalNumberOf w = namePlace ("sing" ∷ "plur" ∷ []) w
 
 -- the case, with the bracket that closes the settings
 unfoldable pub caseOf : Word → ℕ
-caseOf w = placeIn ("nom)" ∷ "gen)" ∷ "dat)" ∷ "acc)" ∷ "ins)" ∷ "loc)" ∷ []) w
+caseOf w = namePlace ("nom)" ∷ "gen)" ∷ "dat)" ∷ "acc)" ∷ "ins)" ∷ "loc)" ∷ []) w
 
 -- "`(fr m old FR)` with m f, old new", and the regions of "From the repository, and added"; feminine or not
 unfoldable pub feminineOf : Word → ℕ
-feminineOf w = placeIn ("m" ∷ "f" ∷ []) w
+feminineOf w = namePlace ("m" ∷ "f" ∷ []) w
 
 -- reformed or not
 unfoldable pub reformedOf : Word → ℕ
-reformedOf w = placeIn ("old" ∷ "new" ∷ []) w
+reformedOf w = namePlace ("old" ∷ "new" ∷ []) w
 
 -- the region, with the bracket that closes the settings
 unfoldable pub regionOf : Word → ℕ
-regionOf w = placeIn ("FR)" ∷ "BE)" ∷ "CH)" ∷ []) w
+regionOf w = namePlace ("FR)" ∷ "BE)" ∷ "CH)" ∷ []) w
 
 -- no space and no bracket
 abbrev pub free : List ℕ → Bool

@@ -4,7 +4,8 @@ use super::names;
 ghost use mathlib.Core.Path.{_≡_};
 ghost use Prim.Native.Nat.{_-_, _≤_};
 ghost use lib.ListN.{length, take, drop};
-ghost use Rattle.phrases_forms.specs.Line.{first as firstOf, rest as restOf, genderOf, grammaticalNumberOf, caseOf, feminineOf, reformedOf, regionOf};
+ghost use Rattle.phrases_forms.specs.Cuts.{firstWord, afterSpace};
+ghost use Rattle.phrases_forms.specs.Line.{genderOf, grammaticalNumberOf, caseOf, feminineOf, reformedOf, regionOf};
 
 // The setting numbers of three words, in their order, and where what is behind them starts.
 pub struct Three {
@@ -26,9 +27,9 @@ struct Spans {
 
 // The first three words.
 fn three_words(s: &[u8]) -> Spans
-    ensures { λ r. ⌜ (take (r .to1) (now (s .entry)) ≡ firstOf (now (s .entry))) × (take (r .to2 - r .from2) (drop (r .from2) (now (s .entry))) ≡ firstOf (restOf (now (s .entry)))) × (take (r .to3 - r .from3) (drop (r .from3) (now (s .entry))) ≡ firstOf (restOf (restOf (now (s .entry))))) ⌝ }
+    ensures { λ r. ⌜ (take (r .to1) (now (s .entry)) ≡ firstWord (now (s .entry))) × (take (r .to2 - r .from2) (drop (r .from2) (now (s .entry))) ≡ firstWord (afterSpace (now (s .entry)))) × (take (r .to3 - r .from3) (drop (r .from3) (now (s .entry))) ≡ firstWord (afterSpace (afterSpace (now (s .entry))))) ⌝ }
     ensures { λ r. ⌜ (r .to1 ≤ length (now (s .entry))) × (r .from2 ≤ r .to2) × (r .to2 ≤ length (now (s .entry))) × (r .from3 ≤ r .to3) × (r .to3 ≤ length (now (s .entry))) ⌝ }
-    ensures { λ r. ⌜ (drop (r .next) (now (s .entry)) ≡ restOf (restOf (restOf (now (s .entry))))) × (r .next ≤ length (now (s .entry))) ⌝ }
+    ensures { λ r. ⌜ (drop (r .next) (now (s .entry)) ≡ afterSpace (afterSpace (afterSpace (now (s .entry))))) × (r .next ≤ length (now (s .entry))) ⌝ }
 {
     let x = cut(s);
     let p = x.next;
@@ -47,8 +48,8 @@ fn three_words(s: &[u8]) -> Spans
 
 // Gender, grammatical number and case.
 pub fn ukrainian(s: &[u8]) -> Three
-    ensures { λ r. ⌜ (r .a ≡ genderOf (firstOf (now (s .entry)))) × (r .b ≡ grammaticalNumberOf (firstOf (restOf (now (s .entry))))) × (r .c ≡ caseOf (firstOf (restOf (restOf (now (s .entry)))))) ⌝ }
-    ensures { λ r. ⌜ (drop (r .next) (now (s .entry)) ≡ restOf (restOf (restOf (now (s .entry))))) × (r .next ≤ length (now (s .entry))) ⌝ }
+    ensures { λ r. ⌜ (r .a ≡ genderOf (firstWord (now (s .entry)))) × (r .b ≡ grammaticalNumberOf (firstWord (afterSpace (now (s .entry))))) × (r .c ≡ caseOf (firstWord (afterSpace (afterSpace (now (s .entry)))))) ⌝ }
+    ensures { λ r. ⌜ (drop (r .next) (now (s .entry)) ≡ afterSpace (afterSpace (afterSpace (now (s .entry))))) × (r .next ≤ length (now (s .entry))) ⌝ }
 {
     let w = three_words(s);
     let to1 = w.to1;
@@ -66,8 +67,8 @@ pub fn ukrainian(s: &[u8]) -> Three
 
 // Gender, spelling and region.
 pub fn french(s: &[u8]) -> Three
-    ensures { λ r. ⌜ (r .a ≡ feminineOf (firstOf (now (s .entry)))) × (r .b ≡ reformedOf (firstOf (restOf (now (s .entry))))) × (r .c ≡ regionOf (firstOf (restOf (restOf (now (s .entry)))))) ⌝ }
-    ensures { λ r. ⌜ (drop (r .next) (now (s .entry)) ≡ restOf (restOf (restOf (now (s .entry))))) × (r .next ≤ length (now (s .entry))) ⌝ }
+    ensures { λ r. ⌜ (r .a ≡ feminineOf (firstWord (now (s .entry)))) × (r .b ≡ reformedOf (firstWord (afterSpace (now (s .entry))))) × (r .c ≡ regionOf (firstWord (afterSpace (afterSpace (now (s .entry)))))) ⌝ }
+    ensures { λ r. ⌜ (drop (r .next) (now (s .entry)) ≡ afterSpace (afterSpace (afterSpace (now (s .entry))))) × (r .next ≤ length (now (s .entry))) ⌝ }
 {
     let w = three_words(s);
     let to1 = w.to1;

@@ -9,8 +9,9 @@ use borrow.Author.Tests.{ne-eqb, lt-leb}
 use lib.Dec.{eqb}
 use lib.ListN.{length, length-append}
 use Rattle.tables.proofs.Tests.{clash-of as clash}
+use Rattle.phrases_forms.specs.Line.{toFirst, divided}
 use Rattle.phrases_answers.specs.Answers.{answerLine, badLine}
-use Rattle.phrases_lines.specs.Program.{toFirst, parts, lastAnswer, answers, program, isLine}
+use Rattle.phrases_lines.specs.Program.{parts, lastAnswer, answers, program, isLine}
 
 -- a line's bytes put before the first line
 before : List ℕ → List (List ℕ) → List (List ℕ)
@@ -27,7 +28,7 @@ line-parts b p e = go (eqb b 10) refl e
     go false q r = (q, r)
 
 parts-before : (p rest : List ℕ) → isLine p ≡ true → parts (p ++ rest) ≡ before p (parts rest)
-unfolding parts before
+unfolding divided before
 parts-before [] rest e = refl
 parts-before (b ∷ p) rest e = let f = line-parts b p e in rw (f .0) (ap (toFirst b) (parts-before p rest (f .1)))
 
@@ -43,7 +44,7 @@ record Some (s : List ℕ) : Type 0 where
   is : parts s ≡ head ∷ more
 
 some : (s : List ℕ) → Some s
-unfolding parts
+unfolding divided
 some [] = record { head = []; more = []; is = refl }
 some (b ∷ s) = go (eqb b 10) refl (some s)
   where
@@ -53,7 +54,7 @@ some (b ∷ s) = go (eqb b 10) refl (some s)
 
 -- a line's end
 pub line-ends : (p rest : List ℕ) → isLine p ≡ true → program (p ++ (10 ∷ rest)) ≡ answerLine p ++ program rest
-unfolding program parts answers
+unfolding program divided answers
 line-ends p rest e =
     let r = some rest in
     let q : parts (p ++ (10 ∷ rest)) ≡ p ∷ (r .head ∷ r .more) = parts-before p (10 ∷ rest) e ∙ before-cons p [] (parts rest) ∙ rw (append-nil p, r .is) refl in
@@ -72,7 +73,7 @@ answers-same (a ∷ k) (b ∷ l) [] e h i = e
 answers-same (a ∷ k) (b ∷ l) (m ∷ ls) e h i = ap (λ (x : List ℕ). x ++ answers (m ∷ ls)) e
 
 pub goes-on : (p : List ℕ) (b : ℕ) (rest : List ℕ) → isLine p ≡ true → (b ≡ 10 → ⊥) → 513 ≤ length p → program (p ++ (b ∷ rest)) ≡ program (p ++ rest)
-unfolding program parts
+unfolding program divided
 goes-on p b rest e z h =
     let r = some rest in
     let q : parts (p ++ (b ∷ rest)) ≡ (p ++ (b ∷ r .head)) ∷ r .more = parts-before p (b ∷ rest) e ∙ rw (ne-eqb b 10 z, r .is) (before-cons p (b ∷ r .head) (r .more)) in
@@ -89,13 +90,13 @@ line-on (c ∷ p) b e z = let f = line-parts c p e in rw (f .0) (line-on p b (f 
 
 -- a line alone
 pub alone : (p : List ℕ) → isLine p ≡ true → program p ≡ lastAnswer p
-unfolding program parts answers
+unfolding program divided answers
 alone p e =
     let q : parts p ≡ p ∷ [] = ap parts (sym (append-nil p)) ∙ parts-before p [] e ∙ before-cons p [] [] ∙ ap (λ (l : List ℕ). l ∷ []) (append-nil p) in
     ap answers q
 
 pub no-line : (p : List ℕ) → length p ≡ 0 → program p ≡ []
-unfolding program parts answers
+unfolding program divided answers
 no-line [] e = refl
 no-line (b ∷ p) e = absurd (omega arith)
 

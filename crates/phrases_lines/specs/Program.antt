@@ -2,20 +2,15 @@
 -- Assumes nothing.
 use Prim.Native.Nat.{ℕ}
 use mathlib.Core.Path.{_≡_}
-use mathlib.Core.Bool.{Bool, true, cond, not, _&&_}
+use mathlib.Core.Bool.{Bool, true, not, _&&_}
 use mathlib.Core.List.{List, [], _∷_, _++_}
 use lib.Dec.{eqb}
+use Rattle.phrases_forms.specs.Line.{divided}
 use Rattle.phrases_answers.specs.Answers.{answerLine}
 
--- a byte put before the first of some lines
-abbrev pub toFirst : ℕ → List (List ℕ) → List (List ℕ)
-toFirst b [] = (b ∷ []) ∷ []
-toFirst b (l ∷ ls) = (b ∷ l) ∷ ls
-
--- what stands before each line feed ("byte 10"), and at last what is behind them all
-unfoldable pub parts : List ℕ → List (List ℕ)
-parts [] = [] ∷ []
-parts (b ∷ s) = cond (eqb b 10) ([] ∷ parts s) (toFirst b (parts s))
+-- what line feeds ("byte 10") divide: the lines, and at last what is behind them all
+abbrev pub parts : List ℕ → List (List ℕ)
+parts s = divided 10 s
 
 -- "the last line may lack its line end": what is behind the last line feed is a line unless it is nothing
 abbrev pub lastAnswer : List ℕ → List ℕ

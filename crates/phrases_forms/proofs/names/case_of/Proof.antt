@@ -9,7 +9,7 @@ use native.Mathlib.Omega.{arith}
 use borrow.Author.Needs.{needs}
 use Rattle.base.specs.Utf8.{utf8}
 use Rattle.base.specs.Same.{sameText}
-use Rattle.phrases_forms.specs.Line.{caseOf, placeIn}
+use Rattle.phrases_forms.specs.Line.{caseOf, namePlace}
 use Rattle.phrases_forms.proofs.Words.{early3, late3, counted3, at-most-3}
 use Rattle.phrases_forms.proofs.names.case_of.Statement.{statement}
 use Rattle.phrases_forms.proofs.names.case_of.Tie as tie
@@ -29,4 +29,4 @@ case-of-spec =
     omega (arith, at-most-3 (is "acc)" s) (is "ins)" s) (is "loc)" s) _ (c .place32 .ensures)))
     (λ c. let s = c .before .before .before .before .before .before .before .before .before .before .args .s .now in
     ap (λ (k : ℕ). 3 + k) (counted3 (is "acc)" s) (is "ins)" s) (is "loc)" s) _ (c .place32 .ensures))
-    ∙ late3 (is "nom)" s) (is "gen)" s) (is "dat)" s) (placeIn ("acc)" ∷ "ins)" ∷ "loc)" ∷ []) s) _ (c .before .before .before .before .before .place3 .ensures) (c .before .before .before .before .if1 .left)))
+    ∙ late3 (is "nom)" s) (is "gen)" s) (is "dat)" s) (namePlace ("acc)" ∷ "ins)" ∷ "loc)" ∷ []) s) _ (c .before .before .before .before .before .place3 .ensures) (c .before .before .before .before .if1 .left)))

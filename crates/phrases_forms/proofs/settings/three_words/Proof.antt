@@ -3,7 +3,7 @@
 use Prim.Native.Nat.{_+_}
 use native.Mathlib.Omega.{arith}
 use borrow.Author.Needs.{needs}
-use Rattle.phrases_forms.specs.Line.{rest}
+use Rattle.phrases_forms.specs.Cuts.{afterSpace}
 use Rattle.phrases_forms.proofs.Words.{word-at, left-at, near}
 use Rattle.phrases_forms.proofs.settings.three_words.Statement.{statement}
 use Rattle.phrases_forms.proofs.settings.three_words.Tie as tie
@@ -17,23 +17,23 @@ returns c =
     let p = x .result .next in
     let d = x .ensures .0 .1 in
     let h = x .ensures .1 .1 in
-    let d2 = left-at s (rest s) p (y .result .end) (y .result .next) h d (y .ensures .0 .1) in
-    let h2 = near s (rest s) p 0 (y .result .next) h d (y .ensures .1 .1) in
+    let d2 = left-at s (afterSpace s) p (y .result .end) (y .result .next) h d (y .ensures .0 .1) in
+    let h2 = near s (afterSpace s) p 0 (y .result .next) h d (y .ensures .1 .1) in
     let q = p + y .result .next in (
       (
         x .ensures .0 .0,
-        word-at s (rest s) p (y .result .end) 0 h d (y .ensures .0 .0),
-        word-at s (rest (rest s)) q (z .result .end) 0 h2 d2 (z .ensures .0 .0),
+        word-at s (afterSpace s) p (y .result .end) 0 h d (y .ensures .0 .0),
+        word-at s (afterSpace (afterSpace s)) q (z .result .end) 0 h2 d2 (z .ensures .0 .0),
       ),
       (
         (
           x .ensures .1 .0,
           omega arith,
-          near s (rest s) p 0 (y .result .end) h d (y .ensures .1 .0),
+          near s (afterSpace s) p 0 (y .result .end) h d (y .ensures .1 .0),
           omega arith,
-          near s (rest (rest s)) q 0 (z .result .end) h2 d2 (z .ensures .1 .0),
+          near s (afterSpace (afterSpace s)) q 0 (z .result .end) h2 d2 (z .ensures .1 .0),
         ),
-        (left-at s (rest (rest s)) q 0 (z .result .next) h2 d2 (z .ensures .0 .1), near s (rest (rest s)) q 0 (z .result .next) h2 d2 (z .ensures .1 .1)),
+        (left-at s (afterSpace (afterSpace s)) q 0 (z .result .next) h2 d2 (z .ensures .0 .1), near s (afterSpace (afterSpace s)) q 0 (z .result .next) h2 d2 (z .ensures .1 .1)),
       ),
     )
 
