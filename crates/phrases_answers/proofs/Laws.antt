@@ -11,7 +11,7 @@ use lib.Dec.{ltb}
 use lib.IntN.{ℤ}
 use lib.ListN.{length, take, drop, set, length-append, length-drop}
 use lib.Seq.{take-all, take-append-seam, length-take-le, drop-append-add, drop-drop, set-split}
-use lib.Option.{none, some}
+use mathlib.Core.Option.{none, some}
 use Rattle.base.specs.Buffer.{over}
 use Rattle.base.specs.Answer.{firstOf, Spelling, refused, bytes, fitted, unless, replied, Answers}
 use Rattle.base.specs.declared.Answer.{Answer}
@@ -22,7 +22,7 @@ use Rattle.figures.specs.Refusals.{yearRefusals}
 use Rattle.figures.specs.Year.{yearOf, yearLimit}
 use Rattle.uk_ordinal_calls.specs.UkOrdinals.{ukToYear}
 use Rattle.phrases_forms.specs.Line.{kindOf, languageOf, genderOf, grammaticalNumberOf, caseOf, feminineOf, reformedOf, regionOf, closed}
-use Rattle.phrases_forms.specs.Cuts.{firstWord, afterSpace}
+use Rattle.phrases_forms.specs.Cuts.{nextWord, afterSpace}
 use Rattle.phrases_forms.specs.declared.Kind.{Kind}
 use Rattle.phrases_forms.specs.declared.Language.{Language}
 use Rattle.phrases_forms.specs.declared.Language.the-variants.{Ukrainian, French}
@@ -139,29 +139,29 @@ module _ (S : Settings) (t : List ℕ) (i : within (ukrainianRanges S) ≡ true)
 
 -- from the settings' words to the form
 module _ (k : Kind) (s t : List ℕ) (x y z r : ℕ) (xs ys : List ℕ) where
-  pub settle-uk : x ≡ genderOf (firstWord s) → y ≡ grammaticalNumberOf (firstWord (afterSpace s)) → z ≡ caseOf (firstWord (afterSpace (afterSpace s))) → t ≡ afterThree s
+  pub settle-uk : x ≡ genderOf (nextWord s) → y ≡ grammaticalNumberOf (nextWord (afterSpace s)) → z ≡ caseOf (nextWord (afterSpace (afterSpace s))) → t ≡ afterThree s
       → within (ukrainianRanges (ukrainianSettings x y z)) ≡ true → Wrote (answerTo (ukrainianLeft k (ukrainianSettings x y z) t)) r xs ys → Wrote (answerTo (settledLeft k Ukrainian s)) r xs ys
   unfolding settledLeft
   settle-uk ex ey ez et i w = rw (← ex, ← ey, ← ez, ← et, i) w
 
-  pub settle-fr : x ≡ feminineOf (firstWord s) → y ≡ reformedOf (firstWord (afterSpace s)) → z ≡ regionOf (firstWord (afterSpace (afterSpace s))) → t ≡ afterThree s
+  pub settle-fr : x ≡ feminineOf (nextWord s) → y ≡ reformedOf (nextWord (afterSpace s)) → z ≡ regionOf (nextWord (afterSpace (afterSpace s))) → t ≡ afterThree s
       → within (frenchRanges (frenchSettings x y z)) ≡ true → Wrote (answerTo (frenchLeft k (frenchSettings x y z) t)) r xs ys → Wrote (answerTo (settledLeft k French s)) r xs ys
   unfolding settledLeft
   settle-fr ex ey ez et i w = rw (← ex, ← ey, ← ez, ← et, i) w
 
 module _ (k : Kind) (s : List ℕ) (x y z r : ℕ) (xs ys : List ℕ) where
-  pub unsettled-uk : x ≡ genderOf (firstWord s) → y ≡ grammaticalNumberOf (firstWord (afterSpace s)) → z ≡ caseOf (firstWord (afterSpace (afterSpace s)))
+  pub unsettled-uk : x ≡ genderOf (nextWord s) → y ≡ grammaticalNumberOf (nextWord (afterSpace s)) → z ≡ caseOf (nextWord (afterSpace (afterSpace s)))
       → within (ukrainianRanges (ukrainianSettings x y z)) ≡ false → Wrote badLine r xs ys → Wrote (answerTo (settledLeft k Ukrainian s)) r xs ys
   unfolding settledLeft
   unsettled-uk ex ey ez i w = rw (← ex, ← ey, ← ez, i) w
 
-  pub unsettled-fr : x ≡ feminineOf (firstWord s) → y ≡ reformedOf (firstWord (afterSpace s)) → z ≡ regionOf (firstWord (afterSpace (afterSpace s)))
+  pub unsettled-fr : x ≡ feminineOf (nextWord s) → y ≡ reformedOf (nextWord (afterSpace s)) → z ≡ regionOf (nextWord (afterSpace (afterSpace s)))
       → within (frenchRanges (frenchSettings x y z)) ≡ false → Wrote badLine r xs ys → Wrote (answerTo (settledLeft k French s)) r xs ys
   unfolding settledLeft
   unsettled-fr ex ey ez i w = rw (← ex, ← ey, ← ez, i) w
 
 -- from the line to its settings
-pub line-is : (s t u : List ℕ) (k : Kind) (l : Language) (r : ℕ) (xs ys : List ℕ) → length s ≤ 512 → k ≡ kindOf (firstWord s) → t ≡ afterSpace s → l ≡ languageOf (firstWord t)
+pub line-is : (s t u : List ℕ) (k : Kind) (l : Language) (r : ℕ) (xs ys : List ℕ) → length s ≤ 512 → k ≡ kindOf (nextWord s) → t ≡ afterSpace s → l ≡ languageOf (nextWord t)
     → u ≡ afterSpace t → Wrote (answerTo (settledLeft k l u)) r xs ys → Wrote (answerLine s) r xs ys
 unfolding answerLine
 line-is s t u k l r xs ys h ek et el eu w =

@@ -5,7 +5,7 @@ use mathlib.Core.Bool.{cond}
 use mathlib.Core.List.{List, [], _∷_, _++_}
 use lib.Dec.{eqb, leb, ltb}
 use lib.ListN.{length}
-use lib.Option.{Option, none, some}
+use mathlib.Core.Option.{Option, none, some}
 use Rattle.base.specs.Answer.{Spelling, firstOf}
 use Rattle.base.specs.Join.{Word}
 use Rattle.base.specs.Utf8.{utf8}
@@ -18,7 +18,7 @@ use Rattle.uk_calls.specs.UkCardinals.{ukToCardinal}
 use Rattle.uk_ordinal_calls.specs.UkOrdinals.{ukToOrdinal, ukToOrdinalNum, ukToYear}
 use Rattle.uk_money_calls.specs.MoneyCalls.{ukToCurrency}
 use Rattle.fr_calls.specs.FrCalls.{frToCardinal, frToOrdinal}
-use Rattle.phrases_forms.specs.Line.{wordsOf, kindOf, languageOf, genderOf, grammaticalNumberOf, caseOf, feminineOf, reformedOf, regionOf, run, inner, closed}
+use Rattle.phrases_forms.specs.Line.{wordsOf, kindOf, languageOf, genderOf, grammaticalNumberOf, caseOf, feminineOf, reformedOf, regionOf, textForm, codeForm}
 use Rattle.phrases_forms.specs.declared.Kind.{Kind}
 use Rattle.phrases_forms.specs.declared.Kind.the-variants.{Card, Ord, Num, Year, Money, Other}
 use Rattle.phrases_forms.specs.declared.Language.{Language}
@@ -40,17 +40,6 @@ badLine = utf8 "bad line" ++ (10 ∷ [])
 abbrev pub answerTo : Option Spelling → List ℕ
 answerTo none = badLine
 answerTo (some S) = lineOf (S .refusal) (S .phrase)
-
--- the last words of a form whose call takes a text: the text, with the bracket that closes the form
-abbrev pub textForm : (List ℕ → Spelling) → List Word → Option Spelling
-textForm call [] = none
-textForm call (w ∷ []) = cond (closed w) (some (call (inner w))) none
-textForm call (w ∷ v ∷ ws) = none
-
--- of one whose call takes a code and a text: "money (code before text)"
-abbrev pub codeForm : (List ℕ → List ℕ → Spelling) → List Word → Option Spelling
-codeForm call [] = none
-codeForm call (w ∷ ws) = cond (run w) (textForm (call w) ws) none
 
 -- a year's text: "A malformed year is refused 3, one beyond 64 signed bits 5"
 abbrev pub yearText : Settings → List ℕ → Spelling

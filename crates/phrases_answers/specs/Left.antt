@@ -1,9 +1,9 @@
 -- What the bytes that are left of a line ask for, as the code goes through it from the front. No answer is defined by it.
 -- Assumes nothing.
 use Prim.Native.Nat.{ℕ}
-use mathlib.Core.Bool.{cond, _&&_}
+use mathlib.Core.Bool.{cond}
 use mathlib.Core.List.{List}
-use lib.Option.{Option, none, some}
+use mathlib.Core.Option.{Option, none}
 use Rattle.base.specs.Answer.{Spelling}
 use Rattle.settings.specs.Settings.{ukrainianRanges, frenchRanges, within}
 use Rattle.settings.specs.declared.Settings.{Settings}
@@ -11,21 +11,12 @@ use Rattle.uk_calls.specs.UkCardinals.{ukToCardinal}
 use Rattle.uk_ordinal_calls.specs.UkOrdinals.{ukToOrdinal, ukToOrdinalNum}
 use Rattle.uk_money_calls.specs.MoneyCalls.{ukToCurrency}
 use Rattle.fr_calls.specs.FrCalls.{frToCardinal, frToOrdinal}
-use Rattle.phrases_forms.specs.Line.{kindOf, languageOf, run, inner, closed}
-use Rattle.phrases_forms.specs.Cuts.{firstWord, afterSpace}
+use Rattle.phrases_forms.specs.Cuts.{nextWord, afterSpace, textLeft, codeLeft}
 use Rattle.phrases_forms.specs.declared.Kind.{Kind}
 use Rattle.phrases_forms.specs.declared.Kind.the-variants.{Card, Ord, Num, Year, Money, Other}
 use Rattle.phrases_forms.specs.declared.Language.{Language}
 use Rattle.phrases_forms.specs.declared.Language.the-variants.{Ukrainian, French, Neither}
 use Rattle.phrases_answers.specs.Answers.{yearText, ukrainianNamed, frenchNamed}
-
--- a text and the bracket that closes the form are left
-abbrev pub textLeft : (List ℕ → Spelling) → List ℕ → Option Spelling
-textLeft call s = cond (closed s) (some (call (inner s))) none
-
--- a code, and a text with the bracket
-abbrev pub codeLeft : (List ℕ → List ℕ → Spelling) → List ℕ → List ℕ → Option Spelling
-codeLeft call code s = cond (run code && closed s) (some (call code (inner s))) none
 
 -- what is left of a Ukrainian form of each kind
 unfoldable pub ukrainianLeft : Kind → Settings → List ℕ → Option Spelling
@@ -33,7 +24,7 @@ ukrainianLeft Card S s = textLeft (ukToCardinal S) s
 ukrainianLeft Ord S s = textLeft (ukToOrdinal S) s
 ukrainianLeft Num S s = textLeft (ukToOrdinalNum S) s
 ukrainianLeft Year S s = textLeft (yearText S) s
-ukrainianLeft Money S s = codeLeft (ukToCurrency S) (firstWord s) (afterSpace s)
+ukrainianLeft Money S s = codeLeft (ukToCurrency S) (nextWord s) (afterSpace s)
 ukrainianLeft Other S s = none
 
 -- of a French one
@@ -47,10 +38,10 @@ frenchLeft Other S s = none
 
 -- the settings that the next three words name
 abbrev pub ukrainianNext : List ℕ → Settings
-ukrainianNext s = ukrainianNamed (firstWord s) (firstWord (afterSpace s)) (firstWord (afterSpace (afterSpace s)))
+ukrainianNext s = ukrainianNamed (nextWord s) (nextWord (afterSpace s)) (nextWord (afterSpace (afterSpace s)))
 
 abbrev pub frenchNext : List ℕ → Settings
-frenchNext s = frenchNamed (firstWord s) (firstWord (afterSpace s)) (firstWord (afterSpace (afterSpace s)))
+frenchNext s = frenchNamed (nextWord s) (nextWord (afterSpace s)) (nextWord (afterSpace (afterSpace s)))
 
 -- what is left behind them
 abbrev pub afterThree : List ℕ → List ℕ

@@ -12,7 +12,7 @@ ghost use lib.ListN.{length};
 ghost use Rattle.settings.specs.Settings.{ukrainianSettings, ukrainianRanges, within};
 ghost use Rattle.phrases_forms.specs.declared.Kind.the-variants.{Card, Ord, Num, Year, Money};
 ghost use Rattle.phrases_forms.specs.declared.Language.the-variants.{Ukrainian as UkrainianLanguage};
-ghost use lib.Option.{some};
+ghost use mathlib.Core.Option.{some};
 ghost use Rattle.uk_money_calls.specs.MoneyCalls.{ukToCurrency};
 ghost use Rattle.phrases_answers.specs.Answers.{answerTo, yearText};
 ghost use Rattle.phrases_answers.specs.Left.{codeLeft, ukrainianLeft, settledLeft};

@@ -14,7 +14,7 @@ use Rattle.bytes.specs.Bytes.{indexOf, indexAfter, slice}
 use Rattle.base.specs.Front.{begins}
 use Rattle.base.specs.Same.{sameText}
 use Rattle.base.proofs.Fronts.{and-false}
-use Rattle.phrases_forms.specs.Cuts.{firstWord, afterSpace}
+use Rattle.phrases_forms.specs.Cuts.{nextWord, afterSpace}
 use Rattle.phrases_forms.specs.Line.{free, run, closed, inner}
 
 -- the first space of a line
@@ -22,12 +22,12 @@ pub whole : (s : List ℕ) → slice 0 (length s) s ≡ s
 unfolding slice
 whole s = take-length s
 
-pub first-is : (s : List ℕ) → take (indexOf 32 s) s ≡ firstWord s
-unfolding indexOf indexAfter firstWord
+pub first-is : (s : List ℕ) → take (indexOf 32 s) s ≡ nextWord s
+unfolding indexOf indexAfter nextWord
 first-is [] = refl
 first-is (b ∷ s) = go (eqb b 32) (first-is s)
   where
-    go : (t : Bool) → take (indexOf 32 s) s ≡ firstWord s → take (indexAfter t (indexOf 32 s)) (b ∷ s) ≡ cond t [] (b ∷ firstWord s)
+    go : (t : Bool) → take (indexOf 32 s) s ≡ nextWord s → take (indexAfter t (indexOf 32 s)) (b ∷ s) ≡ cond t [] (b ∷ nextWord s)
     go true e = refl
     go false e = ap (λ (l : List ℕ). b ∷ l) e
 
@@ -47,7 +47,7 @@ module _ (s : List ℕ) (r : ℕ) (e : r ≡ 0 + indexOf 32 (slice 0 (length s) 
       let i : indexOf 32 (slice 0 (length s) s) ≡ indexOf 32 s = ap (indexOf 32) (whole s) in
       omega (arith, e, i)
 
-  pub first-at : take r s ≡ firstWord s
+  pub first-at : take r s ≡ nextWord s
   first-at = ap (λ (n : ℕ). take n s) place ∙ first-is s
 
   pub rest-at : drop (r + 1) s ≡ afterSpace s
@@ -64,7 +64,7 @@ module _ (s t : List ℕ) (p e n : ℕ) (h : p ≤ length s) (d : drop p s ≡ t
   part-is : part ≡ t
   part-is = take-all (length s - p) (drop p s) (rw length-drop (omega arith)) ∙ d
 
-  pub word-at : take e part ≡ firstWord part → take ((p + e) - p) (drop p s) ≡ firstWord t
+  pub word-at : take e part ≡ nextWord part → take ((p + e) - p) (drop p s) ≡ nextWord t
   word-at c = let k : (p + e) - p ≡ e = omega arith in rw (k, d) (rw part-is at c)
 
   pub left-at : drop n part ≡ afterSpace part → drop (p + n) s ≡ afterSpace t

@@ -6,6 +6,8 @@ use mathlib.Core.Bool.{Bool, true, cond, not, _&&_}
 use mathlib.Core.List.{List, [], _∷_}
 use lib.Dec.{eqb}
 use lib.ListN.{length, getD, take}
+use mathlib.Core.Option.{Option, none, some}
+use Rattle.base.specs.Answer.{Spelling}
 use Rattle.base.specs.Join.{Word, space}
 use Rattle.base.specs.Utf8.{utf8}
 use Rattle.base.specs.Same.{sameText}
@@ -86,3 +88,14 @@ inner s = take (length s - 1) s
 -- whether that is a run, and the last byte the bracket that closes the form
 abbrev pub closed : List ℕ → Bool
 closed s = run (inner s) && eqb (getD s (length s - 1) 0) 41
+
+-- the last words of a form whose call takes a text: the text, with the bracket that closes the form
+abbrev pub textForm : (List ℕ → Spelling) → List Word → Option Spelling
+textForm call [] = none
+textForm call (w ∷ []) = cond (closed w) (some (call (inner w))) none
+textForm call (w ∷ v ∷ ws) = none
+
+-- of one whose call takes a code and a text: "money (code before text)"
+abbrev pub codeForm : (List ℕ → List ℕ → Spelling) → List Word → Option Spelling
+codeForm call [] = none
+codeForm call (w ∷ ws) = cond (run w) (textForm (call w) ws) none

@@ -6,7 +6,7 @@ pub mod settings;
 ghost use mathlib.Core.Path.{_≡_};
 ghost use Prim.Native.Nat.{_≤_};
 ghost use lib.ListN.{length, take, drop};
-ghost use Rattle.phrases_forms.specs.Cuts.{firstWord, afterSpace};
+ghost use Rattle.phrases_forms.specs.Cuts.{nextWord, afterSpace};
 
 // What is asked of a figure.
 pub enum Kind {
@@ -33,7 +33,7 @@ pub struct Bounds {
 
 // The first word of a line.
 pub fn cut(s: &[u8]) -> Bounds
-    ensures { λ r. ⌜ (take (r .end) (now (s .entry)) ≡ firstWord (now (s .entry))) × (drop (r .next) (now (s .entry)) ≡ afterSpace (now (s .entry))) ⌝ }
+    ensures { λ r. ⌜ (take (r .end) (now (s .entry)) ≡ nextWord (now (s .entry))) × (drop (r .next) (now (s .entry)) ≡ afterSpace (now (s .entry))) ⌝ }
     ensures { λ r. ⌜ (r .end ≤ length (now (s .entry))) × (r .next ≤ length (now (s .entry))) ⌝ }
 {
     let n = s.len();

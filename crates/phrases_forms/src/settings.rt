@@ -4,7 +4,7 @@ use super::names;
 ghost use mathlib.Core.Path.{_≡_};
 ghost use Prim.Native.Nat.{_-_, _≤_};
 ghost use lib.ListN.{length, take, drop};
-ghost use Rattle.phrases_forms.specs.Cuts.{firstWord, afterSpace};
+ghost use Rattle.phrases_forms.specs.Cuts.{nextWord, afterSpace};
 ghost use Rattle.phrases_forms.specs.Line.{genderOf, grammaticalNumberOf, caseOf, feminineOf, reformedOf, regionOf};
 
 // The setting numbers of three words, in their order, and where what is behind them starts.
@@ -27,7 +27,7 @@ struct Spans {
 
 // The first three words.
 fn three_words(s: &[u8]) -> Spans
-    ensures { λ r. ⌜ (take (r .to1) (now (s .entry)) ≡ firstWord (now (s .entry))) × (take (r .to2 - r .from2) (drop (r .from2) (now (s .entry))) ≡ firstWord (afterSpace (now (s .entry)))) × (take (r .to3 - r .from3) (drop (r .from3) (now (s .entry))) ≡ firstWord (afterSpace (afterSpace (now (s .entry))))) ⌝ }
+    ensures { λ r. ⌜ (take (r .to1) (now (s .entry)) ≡ nextWord (now (s .entry))) × (take (r .to2 - r .from2) (drop (r .from2) (now (s .entry))) ≡ nextWord (afterSpace (now (s .entry)))) × (take (r .to3 - r .from3) (drop (r .from3) (now (s .entry))) ≡ nextWord (afterSpace (afterSpace (now (s .entry))))) ⌝ }
     ensures { λ r. ⌜ (r .to1 ≤ length (now (s .entry))) × (r .from2 ≤ r .to2) × (r .to2 ≤ length (now (s .entry))) × (r .from3 ≤ r .to3) × (r .to3 ≤ length (now (s .entry))) ⌝ }
     ensures { λ r. ⌜ (drop (r .next) (now (s .entry)) ≡ afterSpace (afterSpace (afterSpace (now (s .entry))))) × (r .next ≤ length (now (s .entry))) ⌝ }
 {
@@ -48,7 +48,7 @@ fn three_words(s: &[u8]) -> Spans
 
 // Gender, grammatical number and case.
 pub fn ukrainian(s: &[u8]) -> Three
-    ensures { λ r. ⌜ (r .a ≡ genderOf (firstWord (now (s .entry)))) × (r .b ≡ grammaticalNumberOf (firstWord (afterSpace (now (s .entry))))) × (r .c ≡ caseOf (firstWord (afterSpace (afterSpace (now (s .entry)))))) ⌝ }
+    ensures { λ r. ⌜ (r .a ≡ genderOf (nextWord (now (s .entry)))) × (r .b ≡ grammaticalNumberOf (nextWord (afterSpace (now (s .entry))))) × (r .c ≡ caseOf (nextWord (afterSpace (afterSpace (now (s .entry)))))) ⌝ }
     ensures { λ r. ⌜ (drop (r .next) (now (s .entry)) ≡ afterSpace (afterSpace (afterSpace (now (s .entry))))) × (r .next ≤ length (now (s .entry))) ⌝ }
 {
     let w = three_words(s);
@@ -67,7 +67,7 @@ pub fn ukrainian(s: &[u8]) -> Three
 
 // Gender, spelling and region.
 pub fn french(s: &[u8]) -> Three
-    ensures { λ r. ⌜ (r .a ≡ feminineOf (firstWord (now (s .entry)))) × (r .b ≡ reformedOf (firstWord (afterSpace (now (s .entry))))) × (r .c ≡ regionOf (firstWord (afterSpace (afterSpace (now (s .entry)))))) ⌝ }
+    ensures { λ r. ⌜ (r .a ≡ feminineOf (nextWord (now (s .entry)))) × (r .b ≡ reformedOf (nextWord (afterSpace (now (s .entry))))) × (r .c ≡ regionOf (nextWord (afterSpace (afterSpace (now (s .entry)))))) ⌝ }
     ensures { λ r. ⌜ (drop (r .next) (now (s .entry)) ≡ afterSpace (afterSpace (afterSpace (now (s .entry))))) × (r .next ≤ length (now (s .entry))) ⌝ }
 {
     let w = three_words(s);
