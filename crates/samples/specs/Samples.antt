@@ -1,59 +1,53 @@
 -- 01's proved samples: the table, and what it says of each line ("Proved samples").
 -- Assumes nothing.
-use Prim.Native.Nat.{ℕ, zero, suc}
+use Prim.Native.Nat.{ℕ}
 use Prim.Native.String.{String}
 use mathlib.Core.Path.{_≡_}
 use mathlib.Core.List.{List, [], _∷_}
 use lib.IntN.{ℤ, pos, negℤ}
 use Rattle.base.specs.Utf8.{utf8}
-use Rattle.base.specs.Answer.{Reply, refused, bytes, numberOf}
-use Rattle.uk_money.specs.Codes.{currencyOf}
-use Rattle.uk.specs.Settings.{unlessSettings}
-use Rattle.uk_calls.specs.Cardinals.{refusedCardinal, cardinal, Means}
-use Rattle.uk_ordinal_calls.specs.Calls.{refusedOrdinal, ordinalPhrase, yearPhrase}
-use Rattle.uk_money_calls.specs.MoneyCalls.{refusedAmount, moneyPhrase}
-use Rattle.fr.specs.Settings.{french}
-use Rattle.fr_calls.specs.Calls.{firstRefusal, cardinalRefusal, ordinalRefusal, cardinalOf, ordinalOf}
+use Rattle.base.specs.Answer.{Spelling}
+use Rattle.settings.specs.Settings.{ukrainianSettings, frenchSettings}
+use Rattle.uk_calls.specs.UkCardinals.{ukToCardinal, UkCardinalMeans}
+use Rattle.uk_ordinal_calls.specs.UkOrdinals.{ukToOrdinal, ukToYear}
+use Rattle.uk_money_calls.specs.MoneyCalls.{ukToCurrency}
+use Rattle.fr_calls.specs.FrCalls.{frToCardinal, frToOrdinal}
 
--- a spelling call: its settings, in the calls' order, and what it is given
-pub data Call : Type 0 where
-  card : ℕ → ℕ → ℕ → String → Call
-  ord : ℕ → ℕ → ℕ → String → Call
-  year : ℕ → ℕ → ℕ → ℤ → Call
-  money : ℕ → ℕ → ℕ → String → String → Call
-  frenchCard : ℕ → ℕ → ℕ → String → Call
-  frenchOrd : ℕ → ℕ → ℕ → String → Call
+-- the definitions that the calls' contracts cite, by the calls' own numbers and texts
+abbrev pub card : ℕ → ℕ → ℕ → String → Spelling
+card g n c t = ukToCardinal (ukrainianSettings g n c) (utf8 t)
 
--- the reply of the refusal n, or where n is 0 of the phrase b, into a buffer that holds it
-abbrev pub reply : ℕ → List ℕ → Reply
-reply zero b = bytes b
-reply (suc n) b = refused (suc n) 0
+abbrev pub ord : ℕ → ℕ → ℕ → String → Spelling
+ord g n c t = ukToOrdinal (ukrainianSettings g n c) (utf8 t)
 
--- the reply to a call, by the definitions that its contract cites
-abbrev pub replyTo : Call → Reply
-replyTo (card g n c t) = reply (refusedCardinal g n c (utf8 t)) (cardinal g c (utf8 t))
-replyTo (ord g n c t) = reply (unlessSettings g n c (refusedOrdinal (utf8 t))) (ordinalPhrase g n c (utf8 t))
-replyTo (year g n c y) = reply (unlessSettings g n c 0) (yearPhrase n c y)
-replyTo (money g n c k t) = reply (refusedAmount g n c (utf8 k) (utf8 t)) (moneyPhrase (currencyOf (utf8 k)) c (utf8 t))
-replyTo (frenchCard f o r t) = reply (firstRefusal (french f o r) (cardinalRefusal (utf8 t))) (cardinalOf (french f o r) (utf8 t))
-replyTo (frenchOrd f o r t) = reply (firstRefusal (french f o r) (ordinalRefusal (utf8 t))) (ordinalOf (french f o r) (utf8 t))
+abbrev pub year : ℕ → ℕ → ℕ → ℤ → Spelling
+year g n c y = ukToYear (ukrainianSettings g n c) y
+
+abbrev pub money : ℕ → ℕ → ℕ → String → String → Spelling
+money g n c code t = ukToCurrency (ukrainianSettings g n c) (utf8 code) (utf8 t)
+
+abbrev pub frenchCard : ℕ → ℕ → ℕ → String → Spelling
+frenchCard f o r t = frToCardinal (frenchSettings f o r) (utf8 t)
+
+abbrev pub frenchOrd : ℕ → ℕ → ℕ → String → Spelling
+frenchOrd f o r t = frToOrdinal (frenchSettings f o r) (utf8 t)
 
 -- a line of the table: a call's phrase, its refusal, that it is not refused, a phrase that it does not say ("Errors of habit"), and a phrase that
--- is refused by 6 under masculine, singular, nominative
+-- is no sentence under masculine, singular, nominative
 pub data Sample : Type 0 where
-  says : Call → String → Sample
-  refuses : Call → ℕ → Sample
-  passes : Call → Sample
-  never : Call → String → Sample
+  says : Spelling → String → Sample
+  refuses : Spelling → ℕ → Sample
+  passes : Spelling → Sample
+  never : Spelling → String → Sample
   unread : String → Sample
 
 -- what a line says
 abbrev pub Holds : Sample → Type 0
-Holds (says c p) = replyTo c ≡ bytes (utf8 p)
-Holds (refuses c n) = replyTo c ≡ refused n 0
-Holds (passes c) = numberOf (replyTo c) ≡ 0
-Holds (never c p) = replyTo c ≡ bytes (utf8 p) → ⊥
-Holds (unread s) = (t : List ℕ) → Means 0 0 (utf8 s) t → ⊥
+Holds (says S p) = (S .refusal ≡ 0) × (S .phrase ≡ utf8 p)
+Holds (refuses S n) = S .refusal ≡ n
+Holds (passes S) = S .refusal ≡ 0
+Holds (never S p) = S .phrase ≡ utf8 p → ⊥
+Holds (unread s) = (t : List ℕ) → UkCardinalMeans (ukrainianSettings 0 0 0) (utf8 s) t → ⊥
 
 -- every line holds
 abbrev pub All : List Sample → Type 0

@@ -1,28 +1,38 @@
 -- Demand 3 in one place: for each kind that is read back, the whole claim over its definitions. `Readable` (crate base) says it in five lines.
 -- Assumes nothing.
-use Prim.Native.Nat.{ℕ, _<_}
+use Prim.Native.Nat.{ℕ}
+use mathlib.Core.Path.{_≡_}
+use mathlib.Core.List.{List}
+use mathlib.Core.Option.{some}
 use Rattle.base.specs.Claim.{Readable}
-use Rattle.uk_calls.specs.Cardinals as uk
+use Rattle.settings.specs.Settings.{ukrainianRanges, frenchRanges, Within}
+use Rattle.settings.specs.declared.Settings.{Settings}
+use Rattle.figures.specs.Refusals.{cardinalRefusals, ordinalRefusals, amountRefusals, Admitted}
+use Rattle.uk_calls.specs.UkCardinals.{ukToCardinal, UkCardinalMeans}
 use Rattle.uk_calls.proofs.Theorem as uk-cardinals
-use Rattle.uk_money.specs.Currencies.{currencyAt}
-use Rattle.uk_money_calls.specs.MoneyCalls as money
+use Rattle.uk_money.specs.Currencies.{Currency}
+use Rattle.uk_money.specs.Codes.{currencyOf}
+use Rattle.uk_money_calls.specs.MoneyCalls.{ukToCurrency, MoneyMeans}
 use Rattle.uk_money_calls.proofs.Theorem as uk-money
-use Rattle.fr.specs.Rules.{InRange}
-use Rattle.fr.specs.declared.French.{French}
-use Rattle.fr_calls.specs.Calls as fr
+use Rattle.fr_calls.specs.FrCalls.{frToCardinal, frToOrdinal, FrCardinalMeans, FrOrdinalMeans}
 use Rattle.fr_calls.proofs.Theorems as fr-theorems
 
--- Ukrainian cardinals, under every gender and case
-pub ukrainian-cardinals : (gender case : ℕ) → gender < 3 → case < 6 → Readable uk.Admitted (uk.cardinal gender case) (uk.Means gender case)
+-- Ukrainian cardinals
+pub ukrainian-cardinals : (S : Settings) → Within (ukrainianRanges S)
+    → Readable (λ t. Admitted (cardinalRefusals 66 t)) (λ t. ukToCardinal S t .phrase) (UkCardinalMeans S)
 ukrainian-cardinals = uk-cardinals.readable
 
--- Ukrainian money, in every currency and case
-pub ukrainian-money : (currency case : ℕ) → currency < 44 → case < 6 → Readable money.Admitted (money.moneyPhrase (currencyAt currency) case) (money.Means (currencyAt currency) case)
+-- Ukrainian money, in the currency of every code
+pub ukrainian-money : (S : Settings) (code : List ℕ) (c : Currency) → Within (ukrainianRanges S) → currencyOf code ≡ some c
+    → Readable (λ t. Admitted (amountRefusals t)) (λ t. ukToCurrency S code t .phrase) (MoneyMeans S (currencyOf code))
 ukrainian-money = uk-money.readable
 
--- French cardinals and ordinals, under every gender, spelling and region
-pub french-cardinals : (F : French) → InRange F → Readable fr.CardinalAdmitted (fr.cardinalOf F) (fr.CardinalMeans F)
+-- French cardinals
+pub french-cardinals : (S : Settings) → Within (frenchRanges S)
+    → Readable (λ t. Admitted (cardinalRefusals 102 t)) (λ t. frToCardinal S t .phrase) (FrCardinalMeans S)
 french-cardinals = fr-theorems.cardinals
 
-pub french-ordinals : (F : French) → InRange F → Readable fr.OrdinalAdmitted (fr.ordinalOf F) (fr.OrdinalMeans F)
+-- French ordinals
+pub french-ordinals : (S : Settings) → Within (frenchRanges S)
+    → Readable (λ t. Admitted (ordinalRefusals 102 t)) (λ t. frToOrdinal S t .phrase) (FrOrdinalMeans S)
 french-ordinals = fr-theorems.ordinals
