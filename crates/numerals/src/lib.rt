@@ -2,6 +2,8 @@
 pub mod money; // money.rt: the money text of groups and hundredths
 
 use base::Answer;
+use base::NO_ROOM;
+use base::NO_SENTENCE;
 use figures::Read;
 use figures::Seen;
 ghost use mathlib.Core.Path.{_≡_};
@@ -130,7 +132,7 @@ pub fn put_number(minus: bool, n: usize, g: &[u16], out: &mut [u8]) -> Answer
     let w = number_size(minus, n, g);
     if out.len() < w {
         return Answer {
-            number: 7,
+            number: NO_ROOM,
             length: w,
         };
     }
@@ -149,7 +151,7 @@ pub fn put_read(read: Read, g: &[u16], out: &mut [u8]) -> Answer
 {
     let seen = read.seen;
     match seen {
-        Seen::Refused => base::refused(6),
+        Seen::Refused => base::refused(NO_SENTENCE),
         Seen::Plain => put_number(false, read.orders, g, out),
         Seen::Negative => put_number(true, read.orders, g, out),
     }

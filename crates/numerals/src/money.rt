@@ -2,6 +2,7 @@
 use crate::put_text;
 use crate::text_size;
 use base::Answer;
+use base::NO_ROOM;
 ghost use mathlib.Core.Path.{_≡_};
 ghost use mathlib.Core.List.{_∷_};
 ghost use Prim.Native.Nat.{_≤_, _<_};
@@ -66,7 +67,7 @@ pub fn put_money_text(n: usize, g: &[u16], h: u32, out: &mut [u8]) -> Answer
     let w = money_size(n, g, h);
     if out.len() < w {
         return Answer {
-            number: 7,
+            number: NO_ROOM,
             length: w,
         };
     }

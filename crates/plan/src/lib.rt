@@ -1,6 +1,7 @@
 // Plans: a phrase is planned piece by piece, then measured, written, or compared with a text. Every kind of phrase goes through these functions; the
 // texts of its pieces are parts of a pool, which the caller lends.
 use base::Answer;
+use base::NO_ROOM;
 ghost use mathlib.Core.Path.{_≡_};
 ghost use Prim.Native.Nat.{ℕ, _+_, _*_, _≤_, _<_};
 ghost use mathlib.Core.List.{List, [], _∷_};
@@ -115,7 +116,7 @@ fn speak_measured(pool: &[u8], plan: &[u32], n: usize, out: &mut [u8]) -> Answer
     let size = len(pool, &plan[..n]);
     if out.len() < size {
         return Answer {
-            number: 7,
+            number: NO_ROOM,
             length: size,
         };
     }

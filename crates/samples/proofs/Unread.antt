@@ -12,12 +12,11 @@ use Rattle.cardinals.specs.Cardinal.{cardinalPhrase}
 use Rattle.cardinals.proofs.Numbers.{said}
 use Rattle.uk.specs.Ukrainian.{ukrainian}
 use Rattle.uk_read.specs.Reading.{sums, signed, afterMinus}
-use Rattle.uk_read.proofs.Known.{lawful}
 use Rattle.uk_read.proofs.Compared.{made}
 use Rattle.uk_calls.specs.UkCardinals.{UkCardinalMeans}
 
 pub no-sentence : (S : Settings) (s : List ℕ) (m : Bool) (n : ℕ) → Within (ukrainianRanges S) → signed (split s) ≡ m → total (sums 22 (afterMinus (split s))) ≡ n
     → (cardinalPhrase (ukrainian S) m n ≡ s → ⊥) → (t : List ℕ) → UkCardinalMeans S s t → ⊥
 no-sentence S s m n v em en f t p =
-    let r = made S (lawful S v) s (p .says) in
+    let r = made S v s (p .minus) (p .magnitude) (p .says) in
     f (rw (sym em ∙ r .0, sym en ∙ r .1) (said (ukrainian S) (p .says) .1))
