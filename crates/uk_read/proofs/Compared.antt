@@ -17,12 +17,12 @@ use Rattle.tokens.specs.Tokens.{split}
 use Rattle.tokens.proofs.Words.{split-joined}
 use Rattle.figures.specs.Groups.{total}
 use Rattle.figures.specs.Seen.{seenOf, ReadOf}
-use Rattle.cardinals.specs.Cardinal.{Lexicon, cardinalPhrase}
+use Rattle.cardinals.specs.Cardinal.{cardinalPhrase}
 use Rattle.cardinals.specs.Grammar.{Says}
 use Rattle.cardinals.proofs.Guessed as guessed
 use Rattle.uk.specs.Ukrainian.{ukrainian}
 use Rattle.uk_read.specs.Reading.{sums, signed, afterMinus}
-use Rattle.uk_read.proofs.Known.{Lawful, lawful}
+use Rattle.uk_read.proofs.Known.{lawful}
 use Rattle.uk_read.proofs.Falls.{sums-small}
 use Rattle.uk_read.proofs.Sentences.{separable, reads}
 

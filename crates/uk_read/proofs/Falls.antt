@@ -13,7 +13,6 @@ use lib.ListN.{length, length-append}
 use Rattle.base.specs.Join.{Word}
 use Rattle.figures.specs.Groups.{total}
 use Rattle.settings.specs.declared.Settings.{Settings}
-use Rattle.cardinals.specs.Cardinal.{Lexicon}
 use Rattle.cardinals.specs.Grammar.{Falling, end, skip, group}
 use Rattle.uk.specs.Ukrainian.{ukrainian}
 use Rattle.uk_read.specs.Reading.{mean, Taken, taken, sums, left}

@@ -10,7 +10,6 @@ use Rattle.base.specs.Join.{Word}
 use Rattle.figures.specs.Groups.{total}
 use Rattle.tokens.proofs.Words.{Separable}
 use Rattle.settings.specs.declared.Settings.{Settings}
-use Rattle.cardinals.specs.Cardinal.{Lexicon}
 use Rattle.cardinals.specs.Grammar.{Falling, end, skip, group, Sentence, nought, unmarked, marked}
 use Rattle.uk.specs.Rules.{DigitWords, opt, lowWords, numWords}
 use Rattle.uk.specs.Ukrainian.{atOrder, ukrainianDigits, scaleNoun, nounWords, ukrainianGroup, ukrainian}

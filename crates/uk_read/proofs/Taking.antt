@@ -8,7 +8,6 @@ use native.Mathlib.Omega.{arith}
 use borrow.Author.Tests.{eq-eqb, ne-eqb, lt-ltb, le-ltb}
 use Rattle.base.specs.Join.{Word}
 use Rattle.settings.specs.declared.Settings.{Settings}
-use Rattle.cardinals.specs.Cardinal.{Lexicon}
 use Rattle.uk.specs.Rules.{DigitWords, opt, lowWords, numWords}
 use Rattle.uk.specs.Ukrainian.{atOrder, ukrainianDigits, scaleNoun, nounWords, ukrainianGroup, ukrainian}
 use Rattle.uk_read.specs.Reading.{mean, Taken, taken}

@@ -3,17 +3,14 @@
 use mathlib.Core.Path.{_≡_, sym, ap, _∙_}
 use native.Mathlib.Omega.{arith}
 use borrow.Author.Needs.{needs}
-use lib.Dec.{ltb, eqb}
+use lib.Dec.{eqb}
 use lib.ListN.{take}
 use lib.Seq.{length-take-le}
-use Rattle.base.specs.Decides.{Decides}
 use Rattle.figures.specs.Groups.{total}
 use Rattle.groups.proofs.Highest.{top-zero}
 use Rattle.plan.proofs.Laws.{from, from-is}
 use Rattle.tokens.specs.Tokens.{split}
-use Rattle.cardinals.specs.Cardinal.{cardinalPhrase}
 use Rattle.uk.specs.Pool.{ukPool}
-use Rattle.uk.specs.Ukrainian.{ukrainian}
 use Rattle.uk_read.specs.Reading.{afterMinus}
 use Rattle.uk_read.proofs.Below.{All, all-read}
 use Rattle.uk_read.proofs.Compared.{read, sign-is, words-stand}
