@@ -1,7 +1,7 @@
 -- Demand 3 for cardinals, in any language of at most 34 orders: from a guess that is right wherever the bytes are a sentence.
 -- Assumes nothing.
 use Prim.Native.Nat.{ℕ, _*_, _^_, _≤_, _<_}
-use mathlib.Core.Path.{_≡_, refl, sym, ap, _∙_, subst}
+use mathlib.Core.Path.{_≡_, refl, sym, _∙_, subst}
 use mathlib.Core.Bool.{Bool, true, false}
 use mathlib.Core.List.{List}
 use native.Mathlib.Nat.{lt-of-lt-of-le, pow-le-pow-right}
