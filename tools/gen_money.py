@@ -176,13 +176,13 @@ pub fn place(key: u64) -> usize
 
 
 def codes_proof():
-    arms = ['(λ c. found (c .match .keys%d) refl)' % (i + 1) for i in range(len(CODES))] + ['(λ c. sym (none _ currencies (c .match .rest)))']
+    arms = ['(λ c. found (c .match .keys%d) refl)' % (i + 1) for i in range(len(CODES))] + ['(λ c. sym (missed _ currencies (c .match .rest)))']
     write('proofs/codes/place/Proof.antt', '''-- `uk_money::codes::place` meets its contract: in the arm of a code's number stands its place.
 -- Assumes nothing.
 use mathlib.Core.Path.{refl, sym}
 use Rattle.uk_money.specs.Currencies.{currencies}
 use Rattle.uk_money.specs.Rows.{placeByKey}
-use Rattle.uk_money.proofs.Keys.{found, none}
+use Rattle.uk_money.proofs.Keys.{found, missed}
 use Rattle.uk_money.proofs.codes.place.Statement.{statement}
 use Rattle.uk_money.proofs.codes.place.Tie as tie
 

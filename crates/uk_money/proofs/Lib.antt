@@ -1,5 +1,6 @@
 pub mod Listed
 pub mod Keys
+pub mod Coded
 pub mod Names
 pub mod Apart
 pub mod Amounts

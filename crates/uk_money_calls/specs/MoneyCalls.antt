@@ -2,7 +2,7 @@
 -- Assumes nothing.
 use Prim.Native.Nat.{ℕ}
 use mathlib.Core.List.{List, [], _∷_}
-use lib.Option.{Option, none, some}
+use mathlib.Core.Option.{Option, none, some}
 use Rattle.base.specs.Answer.{Spelling, firstOf}
 use Rattle.settings.specs.Settings.{ukrainianRanges}
 use Rattle.settings.specs.Refused.{outOfRange}
