@@ -3,6 +3,5 @@ pub mod Taking
 pub mod Falls
 pub mod Texts
 pub mod Below
-pub mod Numbers
 pub mod Sentences
 pub mod Compared
