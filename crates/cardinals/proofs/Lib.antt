@@ -1,3 +1,4 @@
 pub mod Numbers
 pub mod Arrays
 pub mod Guessed
+pub mod Inverse

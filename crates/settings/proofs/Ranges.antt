@@ -2,12 +2,15 @@
 -- Assumes nothing.
 use Prim.Native.Nat.{ℕ}
 use mathlib.Core.Path.{_≡_, refl}
-use mathlib.Core.Bool.{true}
+use mathlib.Core.Bool.{Bool, true, false, not, cond}
 use mathlib.Core.List.{List, [], _∷_}
+use native.Mathlib.Omega.{arith}
 use lib.Dec.{ltb}
 use borrow.Author.Tests.{ltb-true, lt-ltb}
 use Rattle.tables.proofs.Tests.{and-left, and-right}
+use Rattle.base.specs.Answer.{firstOf}
 use Rattle.settings.specs.Settings.{within, Within}
+use Rattle.settings.specs.Refused.{outOfRange}
 
 pub within-holds : (rs : List (ℕ × ℕ)) → within rs ≡ true → Within rs
 within-holds [] e = tt
@@ -17,3 +20,11 @@ within-holds (r ∷ rs) e =
 pub within-true : (rs : List (ℕ × ℕ)) → Within rs → within rs ≡ true
 within-true [] w = refl
 within-true (r ∷ rs) w = rw (lt-ltb (r .0) (r .1) (w .0), within-true rs (w .1)) refl
+
+-- a call of which nothing is refused has its settings in their ranges, and none of the conditions behind that holds
+pub unrefused : (rs : List (ℕ × ℕ)) (cs : List (Bool × ℕ)) → firstOf (outOfRange rs ∷ cs) ≡ 0 → (within rs ≡ true) × (firstOf cs ≡ 0)
+unrefused rs cs e = go (within rs) e
+  where
+    go : (b : Bool) → cond (not b) 1 (firstOf cs) ≡ 0 → (b ≡ true) × (firstOf cs ≡ 0)
+    go true e = (refl, e)
+    go false e = absurd (omega arith)

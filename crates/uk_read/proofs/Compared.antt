@@ -26,27 +26,28 @@ use Rattle.uk_read.proofs.Known.{lawful}
 use Rattle.uk_read.proofs.Falls.{sums-small}
 use Rattle.uk_read.proofs.Sentences.{separable, reads}
 
+-- the sign and the number that are made of bytes
+abbrev pub madeSign : List ℕ → Bool
+madeSign s = signed (split s)
+
+abbrev pub madeNumber : List ℕ → ℕ
+madeNumber s = total (sums 22 (afterMinus (split s)))
+
 module _ (S : Settings) (w : Within (ukrainianRanges S)) (s : List ℕ) where
-  -- what is made of a sentence
-  made : (k : Bool) (l : ℕ) → Says (ukrainian S) s k l → (signed (split s) ≡ k) × (total (sums 22 (afterMinus (split s))) ≡ l)
+  -- of a sentence
+  pub made : (k : Bool) (l : ℕ) → Says (ukrainian S) s k l → (madeSign s ≡ k) × (madeNumber s ≡ l)
   unfolding ukrainian
   made k l p = rw (p .bytes, split-joined (p .words) (separable S (lawful S w) (p .derives))) (reads S (lawful S w) (p .derives))
 
-  small : total (sums 22 (afterMinus (split s))) < 1000 ^ ukrainian S .orders
+  -- of any bytes
+  pub made-small : madeNumber s < 1000 ^ ukrainian S .orders
   unfolding ukrainian
-  small = sums-small 22 (afterMinus (split s))
+  made-small = sums-small 22 (afterMinus (split s))
 
-  pub says-once : {k l : Bool} {m n : ℕ} → Says (ukrainian S) s k m → Says (ukrainian S) s l n → (k ≡ l) × (m ≡ n)
-  says-once p q = guessed.says-once (ukrainian S) s (signed (split s)) (total (sums 22 (afterMinus (split s)))) small made p q
-
-  pub says-decided : Dec ((k : Bool) × ((n : ℕ) × Says (ukrainian S) s k n))
-  says-decided = guessed.says-decided (ukrainian S) s (signed (split s)) (total (sums 22 (afterMinus (split s)))) small made
-
-  -- what the reader promises of the sign m and the groups gs that were made of the bytes
-  pub read : (m : Bool) (gs : List ℕ) → m ≡ signed (split s) → gs ≡ sums 22 (afterMinus (split s)) → (b z : Bool) → z ≡ eqb (total gs) 0
+  -- what the reader promises of a sign m and groups gs that are those
+  pub read : (m : Bool) (gs : List ℕ) → m ≡ madeSign s → gs ≡ sums 22 (afterMinus (split s)) → (b z : Bool) → z ≡ eqb (total gs) 0
       → Decides b (cardinalPhrase (ukrainian S) m (total gs) ≡ s) → ReadOf (Says (ukrainian S) s) (seenOf b z m) gs
-  read m gs em eg b z e d =
-      rw em (guessed.read (ukrainian S) s (signed (split s)) (total (sums 22 (afterMinus (split s)))) small made b z gs (rw eg refl) (e ∙ rw eg refl) (rw (← em, ← eg) d))
+  read m gs em eg b z e d = rw em (guessed.read (ukrainian S) s (madeSign s) (madeNumber s) made-small made b z gs (rw eg refl) (e ∙ rw eg refl) (rw (← em, ← eg) d))
 
 -- a test of the sign's bytes is the sign
 pub sign-is : (b : Bool) (r : ℕ) → eqb r 0 ≡ not b → ltb 0 r ≡ b
