@@ -2,7 +2,7 @@
 -- Assumes nothing.
 use Prim.Native.Nat.{ℕ, _^_, _<_, _≤_}
 use native.Mathlib.Nat.{lt-of-le-of-lt}
-use mathlib.Core.Path.{_≡_, refl, sym, ap, _∙_}
+use mathlib.Core.Path.{_≡_, refl}
 use mathlib.Core.Bool.{Bool, true, false}
 use mathlib.Core.List.{List, [], _∷_}
 use native.Mathlib.Omega.{arith}
@@ -51,7 +51,7 @@ module _ (S : Settings) (code : List ℕ) (i : ℕ) (e : i ≡ codePlace code) (
       → ReadsUnless (firstOf (outOfRange (ukrainianRanges S) ∷ unknown (currencyOf code) ∷ [])) (MoneyMeans S (currencyOf code)) s r xs ys
   read-in w a = rw (w, known-code code known) (rw e at a)
 
--- the text of a sentence's value is the one that is written
+-- a whole part within the limit has at most 102 digits
 pub money-small : {n : ℕ} → n ≤ moneyLimit → n < 10 ^ 102
 money-small l = lt-of-le-of-lt l (lit< tt)
 

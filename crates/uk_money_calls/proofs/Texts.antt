@@ -17,22 +17,22 @@ use Rattle.figures.proofs.Laws.Money.{hundredths-size, money-pointed, whole-pla
 use Rattle.figures.proofs.Laws.Refusals.{Passed, passed}
 use Rattle.figures.proofs.Laws.Round.{negative-take}
 
-pub admitted : (t : List ℕ) → Admitted (amountRefusals t) → Passed (moneyFormed t) (negative t) (wholeOf t) moneyLimit
-admitted t a = passed (moneyFormed t) (negative t) (wholeOf t) moneyLimit a
+pub admits : (t : List ℕ) → Admitted (amountRefusals t) → Passed (moneyFormed t) (negative t) (wholeOf t) moneyLimit
+admits t a = passed (moneyFormed t) (negative t) (wholeOf t) moneyLimit a
 
 formed-plain : (s : List ℕ) → plain (unsigned s) ≡ true → negative s ≡ false → wellFormed s ≡ true
 formed-plain s f e = rw (f, e) refl
 
 module _ (t : List ℕ) (a : Admitted (amountRefusals t)) where
   formed : moneyFormed t ≡ true
-  formed = admitted t a .formed
+  formed = admits t a .formed
 
   whole-sign : negative (wholeText t) ≡ false
   whole-sign = go (pointed t)
     where
       go : (b : Bool) → negative (cond b (take (length t - 3) t) t) ≡ false
-      go true = negative-take (length t - 3) t (admitted t a .sign)
-      go false = admitted t a .sign
+      go true = negative-take (length t - 3) t (admits t a .sign)
+      go false = admits t a .sign
 
   pub whole-digits : digits (unsigned (wholeText t)) ≡ true
   whole-digits = plain-digits (unsigned (wholeText t)) (whole-plain t formed)
@@ -42,7 +42,7 @@ module _ (t : List ℕ) (a : Admitted (amountRefusals t)) where
 
   -- within the limit there are at most 20 digits
   pub whole-few : length (unsigned (wholeText t)) ≤ 20
-  whole-few = plain-size (unsigned (wholeText t)) 20 (whole-plain t formed) (omega arith) (omega (arith, admitted t a .within))
+  whole-few = plain-size (unsigned (wholeText t)) 20 (whole-plain t formed) (omega arith) (omega (arith, admits t a .within))
 
   pub hundredths-digits : digits (hundredthsText t) ≡ true
   hundredths-digits = go (pointed t) refl

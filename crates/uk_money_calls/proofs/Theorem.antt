@@ -8,15 +8,13 @@ use Rattle.base.specs.Claim.{Readable}
 use Rattle.settings.specs.Settings.{ukrainianRanges, Within}
 use Rattle.settings.specs.declared.Settings.{Settings}
 use Rattle.figures.specs.Text.{negative}
-use Rattle.figures.specs.Money.{moneyFormed, wholeOf, hundredthsOf}
+use Rattle.figures.specs.Money.{moneyFormed, wholeOf, hundredthsOf, moneyLimit}
 use Rattle.figures.specs.Refusals.{amountRefusals, Admitted}
-use Rattle.figures.specs.Value.{AmountMeans}
 use Rattle.figures.specs.Written.{moneyDecimal}
 use Rattle.figures.proofs.Laws.Refusals.{none-refused}
 use Rattle.figures.proofs.Laws.Round.{amount-text, amount-is}
 use Rattle.uk_money.specs.Currencies.{Currency}
 use Rattle.uk_money.specs.Codes.{currencyOf}
-use Rattle.uk_money.specs.Money.{amountPhrase}
 use Rattle.uk_money.specs.MoneyGrammar.{SaysMoney}
 use Rattle.uk_money.specs.Rows.{currencyAt, codePlace}
 use Rattle.uk_money.proofs.Amounts.{amount-says, amount-said}
@@ -24,13 +22,13 @@ use Rattle.uk_money.proofs.Coded.{coded}
 use Rattle.uk_money_read.proofs.Made.{says-once}
 use Rattle.uk_money_read.proofs.Decided.{says-decided}
 use Rattle.uk_money_calls.specs.MoneyCalls.{ukToCurrency, moneyPhrase, MoneyMeans}
-use Rattle.uk_money_calls.proofs.Texts.{admitted, hundredths-small}
+use Rattle.uk_money_calls.proofs.Texts.{admits, hundredths-small}
 use Rattle.uk_money_calls.proofs.Entries.{money-small}
 
 module _ (S : Settings) (c : Currency) where
   spelled-means : (t : List ℕ) → Admitted (amountRefusals t) → MoneyMeans S (some c) (moneyPhrase S (some c) t) t
   spelled-means t a =
-      let p = admitted t a in
+      let p = admits t a in
       record {
         units = wholeOf t;
         hundredths = hundredthsOf t;
@@ -42,7 +40,7 @@ module _ (S : Settings) (c : Currency) where
   means-spelled s t m =
       let w = amount-said S c (m .says) in
       let x = m .valued in (
-        none-refused {f = moneyFormed t} {r = negative t} (record { formed = x .formed; sign = x .sign; within = rw (x .whole) (w .0) }),
+        none-refused {f = moneyFormed t} {r = negative t} {size = wholeOf t} {limit = moneyLimit} (record { formed = x .formed; sign = x .sign; within = rw (x .whole) (w .0) }),
         rw (x .whole, x .part) (w .2),
       )
 

@@ -7,6 +7,8 @@ use Rattle.base.proofs.Replies.{refused-as, said, heard}
 use Rattle.settings.specs.Settings.{ukrainianSettings, ukrainianRanges}
 use Rattle.settings.proofs.Ranges.{within-holds}
 use Rattle.figures.specs.Refusals.{amountRefusals}
+use Rattle.uk_money.specs.Codes.{currencyOf}
+use Rattle.uk_money_calls.specs.MoneyCalls.{moneyPhrase}
 use Rattle.uk_money_calls.proofs.Entries.{settings-first, code-next, others-last, said-in}
 use Rattle.uk_money_calls.proofs.to_currency.Statement.{statement}
 use Rattle.uk_money_calls.proofs.to_currency.Tie as tie
@@ -26,7 +28,7 @@ returns c =
     let h = c .before .before .before .before .before .before .before .before .if2 .taken in
     let z = others-last S (a .code .now) (amountRefusals (a .text .now)) (sym (c .before .before .before .before .before .before .before .before .before .before .before .is-ukrainian .ensures) ∙ c .before .before .before .before .before .before .before .before .before .before .if1 .taken) (rw (k .ensures) at h)
     ∙ sym (c .before .before .before .before .before .before .number-of .ensures ∙ c .before .before .before .before .before .before .before .judge-amount .ensures) ∙ c .before .before .before .before .before .if3 .taken in
-    (said _ _ _ _ _ z (heard _ _ _ (said-in S (a .code .now) (k .result) (k .ensures) h (a .text .now)) (rw (c .before .before .before .before .ukrainian .ensures) at (c .before .before .spell .ensures .0))), c .before .before .spell .ensures .1)
+    (said _ _ _ (moneyPhrase S (currencyOf (a .code .now)) (a .text .now)) _ z (heard _ _ _ (said-in S (a .code .now) (k .result) (k .ensures) h (a .text .now)) (rw (c .before .before .before .before .ukrainian .ensures) at (c .before .before .spell .ensures .0))), c .before .before .spell .ensures .1)
 
 returns-2 : tie.Need-returns-2
 returns-2 c =
