@@ -26,7 +26,7 @@ CLASSES = [
     ('vowel1', 'NOUN_1ST_GROUP_SOFT_DECLENSIONS_VOWEL', 'noun1stGroupSoftDeclensionsVowel', 'рупія'),
     ('hard1', 'NOUN_1ST_GROUP_HARD_DECLENSIONS', 'noun1stGroupHardDeclensions', 'єна'),
     ('adj', None, 'adjectiveHardMasculine', 'злотий'),
-    ('fixed', None, None, None),
+    ('undeclined', None, None, None),
     ('hryvnia', 'HRYVNIAS', 'hryvnias', None),
     ('kopiyka', 'KOPIYKAS', 'kopiykas', None),
 ]
@@ -74,7 +74,7 @@ def nouns(name):
             words = [('', used[0])]
         else:
             stems = text.group(1).split(' ')
-            kinds = (['adj'] if adjective else []) + used if '{}' in text.group(1) else ['fixed']
+            kinds = (['adj'] if adjective else []) + used if '{}' in text.group(1) else ['undeclined']
             assert len(stems) == len(kinds), head
             words = [(s.replace('{}', ''), k) for s, k in zip(stems, kinds)]
         for code in re.findall(r'Currency::(\w+)', head):
@@ -127,16 +127,14 @@ def name(words, gender):
 def currencies_spec():
     out = ''
     for code in CODES:
-        main, fraction = [name(words[code], 'feminine' if code in feminines else 'masculine') for words, feminines in PARTS]
+        main, fraction = [name(words[code], 'she' if code in feminines else 'he') for words, feminines in PARTS]
         out += '    currency "%s" %s %s ∷\n' % (code, main, fraction)
     write('specs/Currencies.antt', '''-- The 44 currencies in from_str's order (01, "Ukrainian money"): their nouns are those of `currencies` and `currency_fraction` in uk.rs, their
 -- genders those of `currency_properties` and `currency_fraction_properties`.
 -- Assumes nothing.
-use Prim.Native.Nat.{ℕ}
 use Prim.Native.String.{String}
 use mathlib.Core.List.{List, [], _∷_}
-use lib.ListN.{getD}
-use Rattle.uk_money.specs.Nouns.{hard2, soft2, vowel1, hard1, adj, fixed, hryvnia, kopiyka, Name, masculine, feminine, masculine-pair}
+use Rattle.uk_money.specs.Nouns.{hard2, soft2, vowel1, hard1, adj, undeclined, hryvnia, kopiyka, Name, he, she, he-pair}
 
 -- a currency: its code, and the names of its main unit and of its fraction
 pub record Currency : Type 0 where
@@ -145,21 +143,13 @@ pub record Currency : Type 0 where
   pub fraction : Name
 
 -- a currency from its code and the names of its units
-abbrev currency : String → Name → Name → Currency
+abbrev pub currency : String → Name → Name → Currency
 currency code main fraction = record { code = code; main = main; fraction = fraction }
 
 -- all 44, in from_str's order
 unfoldable pub currencies : List Currency
 currencies =
-%s
--- what stands for no currency
-abbrev pub noCurrency : Currency
-noCurrency = currency "" (masculine "" hard2) (masculine "" hard2)
-
--- the currency with this place in the list
-abbrev pub currencyAt : ℕ → Currency
-currencyAt c = getD currencies c noCurrency
-''' % (out.rstrip()[:-1].rstrip() + ' ∷ []\n'))
+%s''' % (out.rstrip()[:-1].rstrip() + ' ∷ []\n'))
 
 
 def code_key(code):
@@ -186,13 +176,13 @@ pub fn place(key: u64) -> usize
 
 
 def codes_proof():
-    arms = ['(λ c. found (c .match .keys%d) refl)' % (i + 1) for i in range(len(CODES))] + ['(λ c. sym (none _ currencies (c .match .rest)))']
+    arms = ['(λ c. found (c .match .keys%d) refl)' % (i + 1) for i in range(len(CODES))] + ['(λ c. sym (missed _ currencies (c .match .rest)))']
     write('proofs/codes/place/Proof.antt', '''-- `uk_money::codes::place` meets its contract: in the arm of a code's number stands its place.
 -- Assumes nothing.
 use mathlib.Core.Path.{refl, sym}
 use Rattle.uk_money.specs.Currencies.{currencies}
 use Rattle.uk_money.specs.Rows.{placeByKey}
-use Rattle.uk_money.proofs.Keys.{found, none}
+use Rattle.uk_money.proofs.Keys.{found, missed}
 use Rattle.uk_money.proofs.codes.place.Statement.{statement}
 use Rattle.uk_money.proofs.codes.place.Tie as tie
 

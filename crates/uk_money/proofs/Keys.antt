@@ -15,8 +15,7 @@ use Rattle.base.specs.Same.{sameText}
 use Rattle.base.proofs.Same.{same-is, same-not, other-length}
 use Rattle.tables.proofs.Tests.{and-left, and-right}
 use Rattle.uk_money.specs.Currencies.{Currency, currencies}
-use Rattle.uk_money.specs.Codes.{placeIn}
-use Rattle.uk_money.specs.Rows.{codeKey, placeByKey}
+use Rattle.uk_money.specs.Rows.{codePlaceIn, codeKey, placeByKey}
 
 -- the arm of a number, and what is left past the last arm
 pub found : {key k p : ℕ} → key ≡ k → p ≡ placeByKey currencies k → p ≡ placeByKey currencies key
@@ -37,8 +36,8 @@ after A key (c ∷ cs) m =
     let B : Type 0 = A × (key ≡ codeKey (utf8 (c .code)) → ⊥) in
     rw (ne-eqb key (codeKey (utf8 (c .code))) (earlier B key cs m .1)) (ap suc (after B key cs m))
 
-pub none : (key : ℕ) (cs : List Currency) → MissedAfter (Unit {0}) key cs → placeByKey cs key ≡ length cs
-none key cs m = after (Unit {0}) key cs m
+pub missed : (key : ℕ) (cs : List Currency) → MissedAfter (Unit {0}) key cs → placeByKey cs key ≡ length cs
+missed key cs m = after (Unit {0}) key cs m
 
 -- two byte strings with one number
 abbrev Bytes : List ℕ → Type 0
@@ -94,13 +93,13 @@ module _ (c : Currency) (cs : List Currency) (e : codes? (c ∷ cs) ≡ true) wh
   others = and-right (leb (length (utf8 (c .code))) 6 && bytes? (utf8 (c .code))) (codes? cs) e
 
 -- the currency of a code's number is that of the code; a longer text is no code
-place-key : (cs : List Currency) (s : List ℕ) → codes? cs ≡ true → Bytes s → placeByKey cs (codeKey s) ≡ placeIn cs s
-unfolding placeByKey placeIn
+place-key : (cs : List Currency) (s : List ℕ) → codes? cs ≡ true → Bytes s → placeByKey cs (codeKey s) ≡ codePlaceIn cs s
+unfolding placeByKey codePlaceIn
 place-key [] s e g = refl
 place-key (c ∷ cs) s e g = rw (same-key (utf8 (c .code)) s (first-bytes c cs e) g, place-key cs s (others c cs e) g) refl
 
-place-long : (cs : List Currency) (s : List ℕ) → codes? cs ≡ true → 6 < length s → placeIn cs s ≡ length cs
-unfolding placeIn
+place-long : (cs : List Currency) (s : List ℕ) → codes? cs ≡ true → 6 < length s → codePlaceIn cs s ≡ length cs
+unfolding codePlaceIn
 place-long [] s e h = refl
 place-long (c ∷ cs) s e h =
     let l = first-size c cs e in
@@ -110,10 +109,10 @@ all-codes : codes? currencies ≡ true
 unfolding currencies
 all-codes = refl
 
-pub keyed : (s : List ℕ) → Bytes s → placeByKey currencies (codeKey s) ≡ placeIn currencies s
+pub keyed : (s : List ℕ) → Bytes s → placeByKey currencies (codeKey s) ≡ codePlaceIn currencies s
 keyed s g = place-key currencies s all-codes g
 
-pub too-long : (s : List ℕ) → 6 < length s → 44 ≡ placeIn currencies s
+pub too-long : (s : List ℕ) → 6 < length s → 44 ≡ codePlaceIn currencies s
 unfolding currencies
 too-long s h = sym (place-long currencies s all-codes h)
 

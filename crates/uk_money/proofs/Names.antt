@@ -2,46 +2,50 @@
 -- Assumes nothing.
 use Prim.Native.Nat.{ℕ, _/_, _%_, _<_}
 use mathlib.Core.Path.{_≡_, refl, sym, ap, _∙_}
-use mathlib.Core.Bool.{Bool, true, false, cond, _&&_}
+use mathlib.Core.Bool.{Bool, true, _&&_}
 use mathlib.Core.List.{List, [], map}
 use native.Mathlib.Omega.{arith}
 use borrow.Author.Tests.{ltb-true}
-use lib.Dec.{ltb, eqb}
+use lib.Dec.{ltb}
 use lib.ListN.{getD, List·getD-map}
 use Rattle.base.specs.Join.{Word}
 use Rattle.base.specs.Utf8.{form2}
+use Rattle.settings.specs.declared.Settings.{Settings}
 use Rattle.words.specs.Part.{part}
 use Rattle.base.specs.Same.{sameText}
 use Rattle.base.proofs.Same.{same-is}
 use Rattle.tables.proofs.Tests.{all, all-at, both-hold}
 use Rattle.uk.specs.Pool.{ukPool}
-use Rattle.uk.specs.Ukrainian.{many, agreedNumber, agreedCase}
 use Rattle.uk_money.specs.NounTables.{noun2stGroupHardDeclensions, noun2stGroupSoftDeclensions, noun1stGroupSoftDeclensionsVowel, noun1stGroupHardDeclensions, adjectiveHardMasculine, hryvnias, kopiykas}
-use Rattle.uk_money.specs.Nouns.{Name, endings, formOf, nameForms}
-use Rattle.uk_money.specs.Currencies.{Currency, currencies, noCurrency, currencyAt}
-use Rattle.uk_money.specs.Rows.{classAt, formsIn, Row}
+use Rattle.uk_money.specs.Nouns.{Name, hard2, he, endings, formOf, nameForms}
+use Rattle.uk_money.specs.Currencies.{Currency, currency, currencies}
+use Rattle.uk_money.specs.Rows.{classAt, formsIn, Row, currencyAt}
 use Rattle.uk_money.proofs.Listed as places
 
 -- a name's gender and words, and those of a row
-abbrev told : Name → ℕ × (ℕ → ℕ → List Word)
-told name = (name .gender, nameForms name)
+abbrev told : Name → ℕ × (Settings → List Word)
+told name = (name .gender, λ S. nameForms S name)
 
-abbrev toldIn : List ℕ → ℕ × (ℕ → ℕ → List Word)
-toldIn row = (getD row 3 0, formsIn row)
+abbrev toldIn : List ℕ → ℕ × (Settings → List Word)
+toldIn row = (getD row 3 0, λ S. formsIn row (S .number) (S .case))
+
+-- what stands past the end of the currencies
+abbrev past : Currency
+past = currency "" (he "" hard2) (he "" hard2)
 
 -- the class and the gender of a row are in their ranges
 abbrev small : List ℕ → Bool
 small row = ltb (getD row 2 0) 8 && ltb (getD row 3 0) 3
 
 -- of the names of main units, or of fractions, and a table of rows: tests over the whole, and what they tell of one
-rows : (side : Currency → Name) (table : List (List ℕ)) → map (λ c. told (side c)) currencies ≡ map toldIn table → told (side noCurrency) ≡ toldIn []
+rows : (side : Currency → Name) (table : List (List ℕ)) → map (λ c. told (side c)) currencies ≡ map toldIn table → told (side past) ≡ toldIn []
     → all 0 44 (λ i. small (getD table i [])) ≡ true → (i : ℕ) → i < 44 → Row (side (currencyAt i)) (getD table i [])
 rows side table e z s i h =
     let row : List ℕ = getD table i [] in
     let t : told (side (currencyAt i)) ≡ toldIn row =
-    sym (List·getD-map (λ c. told (side c)) currencies i noCurrency) ∙ ap (λ l. getD l i (told (side noCurrency))) e ∙ ap (getD (map toldIn table) i) z ∙ List·getD-map toldIn table i [] in
+    sym (List·getD-map (λ c. told (side c)) currencies i past) ∙ ap (λ l. getD l i (told (side past))) e ∙ ap (getD (map toldIn table) i) z ∙ List·getD-map toldIn table i [] in
     let b = both-hold (ltb (getD row 2 0) 8) (ltb (getD row 3 0) 3) (all-at 0 44 (λ i. small (getD table i [])) s i (omega arith) h) in
-    record { gender = ap (λ p. p .0) t; forms = ap (λ p. p .1) t; classes = ltb-true (getD row 2 0) 8 (b .0); genders = ltb-true (getD row 3 0) 3 (b .1) }
+    record { gender = ap (λ p. p .0) t; forms = λ S. ap (λ p. p .1 S) t; classes = ltb-true (getD row 2 0) 8 (b .0); genders = ltb-true (getD row 3 0) 3 (b .1) }
 
 pub main-rows : (i : ℕ) → i < 44 → Row (currencyAt i .main) (getD places.main i [])
 unfolding currencies nameForms formOf part ukPool
@@ -72,19 +76,3 @@ unfolding entry
 ending-at k p h g =
     same-is (part ukPool (getD (getD places.endings k []) p 0)) (form2 (endings (classAt k)) (p / 6) (p % 6))
     (all-at 0 12 (entry k) (all-at 0 8 (λ k. all 0 12 (entry k)) entries k (omega arith) h) p (omega arith) g)
-
--- grammatical numbers and cases that agreement gives are in their ranges
-number-small : (a b : Bool) → cond a 1 (cond b 0 1) < 2
-number-small true b = omega arith
-number-small false true = omega arith
-number-small false false = omega arith
-
-pub agreed-number : (t u : ℕ) → agreedNumber t u < 2
-agreed-number t u = number-small (many t u) (eqb u 1)
-
-case-small : (a : Bool) (case : ℕ) → case < 6 → cond a 1 case < 6
-case-small true case h = omega arith
-case-small false case h = h
-
-pub agreed-case : (t u case : ℕ) → case < 6 → agreedCase t u case < 6
-agreed-case t u case h = case-small (many t u && eqb case 0) case h

@@ -1,60 +1,81 @@
--- Demand 3 for Ukrainian money, over the definitions: `readable` below, for every currency and case.
+-- Demand 3 for Ukrainian money, over the definitions: `readable` below, for every code and any settings in their ranges.
 -- Assumes nothing.
 use Prim.Native.Nat.{ℕ, _<_}
-use mathlib.Core.Path.{_≡_, refl, sym, ap, _∙_, subst}
+use mathlib.Core.Path.{_≡_, refl, sym, _∙_, subst}
 use mathlib.Core.List.{List}
+use mathlib.Core.Option.{Option, some}
 use Rattle.base.specs.Claim.{Readable}
-use Rattle.figures.specs.Text.{value, unsigned}
-use Rattle.figures.specs.Money.{wholeText, hundredthsText}
+use Rattle.settings.specs.Settings.{ukrainianRanges, Within}
+use Rattle.settings.specs.declared.Settings.{Settings}
+use Rattle.figures.specs.Text.{negative}
+use Rattle.figures.specs.Money.{moneyFormed, wholeOf, hundredthsOf, moneyLimit}
+use Rattle.figures.specs.Refusals.{amountRefusals, Admitted}
 use Rattle.figures.specs.Written.{moneyDecimal}
-use Rattle.uk_money.specs.Currencies.{Currency, currencyAt}
+use Rattle.figures.proofs.Laws.Refusals.{none-refused}
+use Rattle.figures.proofs.Laws.Round.{amount-text, amount-is}
+use Rattle.uk_money.specs.Currencies.{Currency}
+use Rattle.uk_money.specs.Codes.{currencyOf}
 use Rattle.uk_money.specs.MoneyGrammar.{SaysMoney}
+use Rattle.uk_money.specs.Rows.{currencyAt, codePlace}
+use Rattle.uk_money.proofs.Amounts.{amount-says, amount-said}
+use Rattle.uk_money.proofs.Coded.{coded}
 use Rattle.uk_money_read.proofs.Made.{says-once}
-use Rattle.uk_money_read.proofs.Decided.{spelled, spelled-says, says-spelled, says-decided}
-use Rattle.uk_money_calls.specs.MoneyCalls.{Admitted, moneyPhrase, Means}
-use Rattle.uk_money_calls.proofs.Texts.{parts, parts-admitted, hundredths-small, parts-text, text-parts}
+use Rattle.uk_money_read.proofs.Decided.{says-decided}
+use Rattle.uk_money_calls.specs.MoneyCalls.{ukToCurrency, moneyPhrase, MoneyMeans}
+use Rattle.uk_money_calls.proofs.Texts.{admits, hundredths-small}
+use Rattle.uk_money_calls.proofs.Entries.{money-small}
 
-module _ (c : Currency) (case : ℕ) where
-  spelled-means : (t : List ℕ) → Admitted t → Means c case (moneyPhrase c case t) t
-  unfolding moneyPhrase
+module _ (S : Settings) (c : Currency) where
+  spelled-means : (t : List ℕ) → Admitted (amountRefusals t) → MoneyMeans S (some c) (moneyPhrase S (some c) t) t
   spelled-means t a =
-      let p = parts t a in
+      let p = admits t a in
       record {
-        whole = value (unsigned (wholeText t));
-        hundredths = value (hundredthsText t);
-        says = spelled-says c case (value (unsigned (wholeText t))) (value (hundredthsText t)) (p .within) (hundredths-small t p);
-        text = sym (parts-text t p);
+        units = wholeOf t;
+        hundredths = hundredthsOf t;
+        says = amount-says S c (wholeOf t) (hundredthsOf t) (p .within) (hundredths-small t a);
+        valued = record { formed = p .formed; sign = p .sign; whole = refl; part = refl };
       }
 
-  means-spelled : (s t : List ℕ) → Means c case s t → Admitted t × (moneyPhrase c case t ≡ s)
-  unfolding moneyPhrase
+  means-spelled : (s t : List ℕ) → MoneyMeans S (some c) s t → Admitted (amountRefusals t) × (moneyPhrase S (some c) t ≡ s)
   means-spelled s t m =
-      let a = says-spelled c case (m .says) in
-      let p = text-parts (m .whole) (m .hundredths) (a .0) (a .1) in
-      rw (m .text) (
-        parts-admitted (moneyDecimal (m .whole) (m .hundredths)) (p .0),
-        ap (λ (n : ℕ). spelled c case n (value (hundredthsText (moneyDecimal (m .whole) (m .hundredths))))) (p .1) ∙ ap (spelled c case (m .whole)) (p .2) ∙ a .2,
+      let w = amount-said S c (m .says) in
+      let x = m .valued in (
+        none-refused {f = moneyFormed t} {r = negative t} {size = wholeOf t} {limit = moneyLimit} (record { formed = x .formed; sign = x .sign; within = rw (x .whole) (w .0) }),
+        rw (x .whole, x .part) (w .2),
       )
 
-module _ (i case : ℕ) (hi : i < 44) (hc : case < 6) where
-  one-value : (s t u : List ℕ) → Means (currencyAt i) case s t → Means (currencyAt i) case s u → t ≡ u
+-- of one of the 44
+module _ (S : Settings) (w : Within (ukrainianRanges S)) (i : ℕ) (hi : i < 44) where
+  abbrev Means : List ℕ → List ℕ → Type 0
+  Means s t = MoneyMeans S (some (currencyAt i)) s t
+
+  one-value : (s t u : List ℕ) → Means s t → Means s u → t ≡ u
   one-value s t u p q =
-      let e = says-once i case hi hc s (p .says) (q .says) in
-      p .text ∙ rw (e .0, e .1) refl ∙ sym (q .text)
+      let e = says-once S w i hi s (p .says) (q .says) in
+      amount-is (p .valued) (amount-said S (currencyAt i) (p .says) .0) ∙ rw (e .0, e .1) (sym (amount-is (q .valued) (amount-said S (currencyAt i) (q .says) .0)))
 
-  decided : (s : List ℕ) → Dec ((t : List ℕ) × Means (currencyAt i) case s t)
-  decided s = go (says-decided i case hi hc s)
+  decided : (s : List ℕ) → Dec ((t : List ℕ) × Means s t)
+  decided s = go (says-decided S w i hi s)
     where
-      go : Dec ((n : ℕ) × ((h : ℕ) × SaysMoney (currencyAt i) case s n h)) → Dec ((t : List ℕ) × Means (currencyAt i) case s t)
-      go (yes p) = yes (moneyDecimal (p .0) (p .1 .0), record { whole = p .0; hundredths = p .1 .0; says = p .1 .1; text = refl })
-      go (no f) = no (λ p. f (p .1 .whole, (p .1 .hundredths, p .1 .says)))
+      go : Dec ((n : ℕ) × ((h : ℕ) × SaysMoney S (currencyAt i) s n h)) → Dec ((t : List ℕ) × Means s t)
+      go (yes p) =
+          let l = amount-said S (currencyAt i) (p .1 .1) in
+          yes (moneyDecimal (p .0) (p .1 .0), record { units = p .0; hundredths = p .1 .0; says = p .1 .1; valued = amount-text (p .0) (p .1 .0) (money-small (l .0)) (l .1) })
+      go (no f) = no (λ p. f (p .1 .units, (p .1 .hundredths, p .1 .says)))
 
-  pub readable : Readable Admitted (moneyPhrase (currencyAt i) case) (Means (currencyAt i) case)
-  readable = record {
-    spelled = spelled-means (currencyAt i) case;
-    value = means-spelled (currencyAt i) case;
+  one-readable : Readable (λ (t : List ℕ). Admitted (amountRefusals t)) (λ (t : List ℕ). moneyPhrase S (some (currencyAt i)) t) Means
+  one-readable = record {
+    spelled = spelled-means S (currencyAt i);
+    value = means-spelled S (currencyAt i);
     oneText = λ t u a b e.
-        one-value (moneyPhrase (currencyAt i) case u) t u (subst (λ (s : List ℕ). Means (currencyAt i) case s t) e (spelled-means (currencyAt i) case t a)) (spelled-means (currencyAt i) case u b);
+        one-value (moneyPhrase S (some (currencyAt i)) u) t u (subst (λ (s : List ℕ). Means s t) e (spelled-means S (currencyAt i) t a)) (spelled-means S (currencyAt i) u b);
     oneValue = one-value;
     decided = decided;
   }
+
+pub readable : (S : Settings) (code : List ℕ) (c : Currency) → Within (ukrainianRanges S) → currencyOf code ≡ some c
+    → Readable (λ (t : List ℕ). Admitted (amountRefusals t)) (λ (t : List ℕ). ukToCurrency S code t .phrase) (MoneyMeans S (currencyOf code))
+readable S code c w e =
+    let p = coded code c e in
+    subst (λ (o : Option Currency). Readable (λ (t : List ℕ). Admitted (amountRefusals t)) (λ (t : List ℕ). moneyPhrase S o t) (MoneyMeans S o)) (sym e)
+    (subst (λ (d : Currency). Readable (λ (t : List ℕ). Admitted (amountRefusals t)) (λ (t : List ℕ). moneyPhrase S (some d) t) (MoneyMeans S (some d))) (p .1) (one-readable S w (codePlace code) (p .0)))

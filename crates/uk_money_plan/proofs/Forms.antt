@@ -1,20 +1,21 @@
 -- The words of names and counts as the code's places and tests have them.
 -- Assumes nothing.
-use Prim.Native.Nat.{ℕ, zero, suc, _/_, _%_}
+use Prim.Native.Nat.{ℕ, zero, suc, _+_, _*_, _/_, _%_, _<_}
 use mathlib.Core.Path.{_≡_, refl}
-use mathlib.Core.Bool.{Bool, true, false}
 use mathlib.Core.List.{List, [], _∷_, _++_, append-nil}
 use native.Mathlib.Omega.{arith}
 use lib.ListN.{getD, replicate}
+use Rattle.base.specs.Join.{joined}
 use Rattle.base.specs.Utf8.{form2}
+use Rattle.settings.specs.declared.Settings.{Settings}
+use Rattle.figures.specs.Groups.{total, Groups}
 use Rattle.groups.specs.Highest.{ZeroFrom}
 use Rattle.words.specs.Part.{part}
 use Rattle.uk.specs.Pool.{ukPool}
-use Rattle.uk.specs.Ukrainian.{agreedNumber, agreedCase}
-use Rattle.uk.specs.Cardinal.{groupOf, groupsBelow, cardinalWords}
-use Rattle.uk_money.specs.Nouns.{adj, endings, Name}
+use Rattle.uk.specs.Ukrainian.{agreed}
+use Rattle.uk_money.specs.Nouns.{adj, endings, Name, agreedName}
 use Rattle.uk_money.specs.Currencies.{Currency}
-use Rattle.uk_money.specs.Money.{agreedName, countWords, moneyWords}
+use Rattle.uk_money.specs.Money.{countWords, amountWords, amountPhrase}
 use Rattle.uk_money.specs.Rows.{classAt, adjectiveIn, Row}
 
 -- a word whose stem is empty, and one whose ending is
@@ -38,39 +39,54 @@ adjective-is zero e number case n f = absurd (n refl)
 adjective-is (suc a) e number case n f = rw f refl
 
 -- a name as it agrees with n, from the adjective and the noun of its row, in the form that stands at p
-pub name-is : (name : Name) (row : List ℕ) → Row name row → (case n p e : ℕ) → p / 6 ≡ agreedNumber (n / 10 % 10) (n % 10) → p % 6 ≡ agreedCase (n / 10 % 10) (n % 10) case
+pub name-is : (S : Settings) (name : Name) (row : List ℕ) → Row name row → (n p e : ℕ) → p / 6 ≡ agreed (n / 10 % 10) (n % 10) S .number → p % 6 ≡ agreed (n / 10 % 10) (n % 10) S .case
     → part ukPool e ≡ form2 (endings (classAt (getD row 2 0))) (p / 6) (p % 6)
-    → adjectiveIn (getD row 0 0) (p / 6) (p % 6) ++ ((part ukPool (getD row 1 0) ++ part ukPool e) ∷ []) ≡ agreedName name case n
+    → adjectiveIn (getD row 0 0) (p / 6) (p % 6) ++ ((part ukPool (getD row 1 0) ++ part ukPool e) ∷ []) ≡ agreedName S name n
 unfolding agreedName
-name-is name row r case n p e a b f = rw (f, a, b, r .forms) refl
+name-is S name row r n p e a b f = rw (f, a, b, r .forms (agreed (n / 10 % 10) (n % 10) S)) refl
+
+-- it agrees with a number as with its lowest group
+pub agrees-low : (S : Settings) (name : Name) (gs : List ℕ) → agreedName S name (getD gs 0 0) ≡ agreedName S name (total gs)
+unfolding agreedName
+agrees-low S name [] = refl
+agrees-low S name (g ∷ gs) =
+    let t : (g + 1000 * total gs) / 10 % 10 ≡ g / 10 % 10 = omega arith in
+    let u : (g + 1000 * total gs) % 10 ≡ g % 10 = omega arith in
+    rw (t, u) refl
 
 -- hundredths as the lowest of the code's groups
-pub lowest : (name : Name) (case h : ℕ) → countWords name case false (h ∷ replicate 21 0) ≡ countWords name case false (h ∷ [])
-unfolding countWords cardinalWords groupsBelow groupOf
-lowest name case h = refl
+zeros-are : (n i : ℕ) → _≡_ {A = ℕ} (getD (replicate n 0) i 0) 0
+zeros-are zero i = refl
+zeros-are (suc n) zero = refl
+zeros-are (suc n) (suc i) = zeros-are n i
+
+zero-groups : (n : ℕ) → Groups (replicate n 0)
+zero-groups zero = tt
+zero-groups (suc n) = (omega arith, zero-groups n)
 
 pub one-order : (h : ℕ) → ZeroFrom (h ∷ replicate 21 0) 1
 one-order h zero l = absurd (omega arith)
-one-order h (suc i) l = zeros 21 i
-  where
-    zeros : (n i : ℕ) → _≡_ {A = ℕ} (getD (replicate n 0) i 0) 0
-    zeros zero i = refl
-    zeros (suc n) zero = refl
-    zeros (suc n) (suc i) = zeros n i
+one-order h (suc i) l = zeros-are 21 i
+
+pub one-group : (h : ℕ) → h < 100 → Groups (h ∷ replicate 21 0)
+one-group h l = (omega arith, zero-groups 21)
+
+pub one-total : (h : ℕ) → total (h ∷ replicate 21 0) ≡ h
+one-total h = omega arith
 
 -- the cases of an amount
-pub whole-is : (c : Currency) (case : ℕ) (isZero : Bool) (gs : List ℕ) (h : ℕ) → h ≡ 0 → countWords (c .main) case isZero gs ≡ moneyWords c case isZero gs h
-unfolding moneyWords
-whole-is c case isZero gs h e = rw e refl
+pub whole-is : (S : Settings) (c : Currency) (n h : ℕ) → h ≡ 0 → joined (countWords S (c .main) n) ≡ amountPhrase S c n h
+unfolding amountWords amountPhrase
+whole-is S c n h e = rw e refl
 
-pub hundredths-is : (c : Currency) (case : ℕ) (isZero : Bool) (gs : List ℕ) (h : ℕ) → (h ≡ 0 → ⊥) → isZero ≡ true
-    → countWords (c .fraction) case false (h ∷ []) ≡ moneyWords c case isZero gs h
-unfolding moneyWords
-hundredths-is c case isZero gs zero n e = absurd (n refl)
-hundredths-is c case isZero gs (suc h) n e = rw e refl
+pub part-is : (S : Settings) (c : Currency) (n h : ℕ) → n ≡ 0 → (h ≡ 0 → ⊥) → joined (countWords S (c .fraction) h) ≡ amountPhrase S c n h
+unfolding amountWords amountPhrase
+part-is S c n zero z o = absurd (o refl)
+part-is S c n (suc h) z o = rw z refl
 
-pub both-is : (c : Currency) (case : ℕ) (isZero : Bool) (gs : List ℕ) (h : ℕ) → (h ≡ 0 → ⊥) → isZero ≡ false
-    → countWords (c .main) case false gs ++ countWords (c .fraction) case false (h ∷ []) ≡ moneyWords c case isZero gs h
-unfolding moneyWords
-both-is c case isZero gs zero n e = absurd (n refl)
-both-is c case isZero gs (suc h) n e = rw e refl
+pub both-are : (S : Settings) (c : Currency) (n h : ℕ) → (n ≡ 0 → ⊥) → (h ≡ 0 → ⊥)
+    → joined (countWords S (c .main) n ++ countWords S (c .fraction) h) ≡ amountPhrase S c n h
+unfolding amountWords amountPhrase
+both-are S c n zero z o = absurd (o refl)
+both-are S c zero (suc h) z o = absurd (z refl)
+both-are S c (suc n) (suc h) z o = refl

@@ -1,7 +1,7 @@
 -- The tests of the reader, as they decide its statements.
 -- Assumes nothing.
 use Prim.Native.Nat.{ℕ, _<_, _≤_}
-use mathlib.Core.Path.{_≡_, sym, _∙_}
+use mathlib.Core.Path.{_≡_, sym}
 use mathlib.Core.Bool.{Bool, true, false}
 use mathlib.Core.List.{List}
 use native.Mathlib.Omega.{arith}
@@ -21,8 +21,5 @@ module _ (n h : ℕ) (said s : List ℕ) where
   pub above-limit : false ≡ leb n moneyLimit → Decides false (Stated n h said s)
   above-limit k = record { holds = λ e. clash (sym e); fails = λ e p. omega (arith, p .0, leb-false n moneyLimit (sym k)) }
 
-  pub in-limits : (b : Bool) (other : List ℕ) → other ≡ said → true ≡ leb n moneyLimit → h ≤ 99 → Decides b (other ≡ s) → Decides b (Stated n h said s)
-  in-limits b other o k l d = record {
-    holds = λ e. (leb-true n moneyLimit (sym k), omega arith, sym o ∙ d .holds e);
-    fails = λ e p. d .fails e (o ∙ p .2);
-  }
+  pub in-limits : (b : Bool) → true ≡ leb n moneyLimit → h ≤ 99 → Decides b (said ≡ s) → Decides b (Stated n h said s)
+  in-limits b k l d = record { holds = λ e. (leb-true n moneyLimit (sym k), omega arith, d .holds e); fails = λ e p. d .fails e (p .2) }

@@ -1,6 +1,6 @@
 -- No form of a currency noun is a number word, or has a gap in it: one computed test over the forms of all names.
 -- Assumes nothing.
-use Prim.Native.Nat.{ℕ, _+_, _*_, _/_, _%_, _<_}
+use Prim.Native.Nat.{ℕ, _/_, _%_, _<_}
 use mathlib.Core.Path.{_≡_, refl, sym}
 use mathlib.Core.Bool.{Bool, true, false, _&&_}
 use mathlib.Core.List.{List, [], _∷_, _++_}
@@ -9,6 +9,8 @@ use borrow.Author.Tests.{eqb-true, eq-eqb}
 use lib.Dec.{eqb}
 use Rattle.base.specs.Join.{Word}
 use Rattle.base.specs.Utf8.{form2}
+use Rattle.settings.specs.Settings.{ukrainianRanges, Within}
+use Rattle.settings.specs.declared.Settings.{Settings}
 use Rattle.tables.proofs.Tests.{and-left, and-right, all, all-at, clash}
 use Rattle.tokens.specs.Tokens.{whole, key}
 use Rattle.tokens.proofs.Words.{isWord, Separable}
@@ -17,11 +19,12 @@ use Rattle.uk_meanings.specs.Meanings.{shifts, table, meaningOf}
 use Rattle.uk_read.specs.Reading.{mean}
 use Rattle.uk_read.proofs.Taking.{Stops}
 use Rattle.uk_money.specs.NounTables.{noun2stGroupHardDeclensions, noun2stGroupSoftDeclensions, noun1stGroupSoftDeclensionsVowel, noun1stGroupHardDeclensions, adjectiveHardMasculine, hryvnias, kopiykas}
-use Rattle.uk_money.specs.Nouns.{Name, endings, formOf, nameForms}
-use Rattle.uk_money.specs.Currencies.{Currency, currencies, currencyAt}
-use Rattle.uk_money.specs.Money.{agreedName}
-use Rattle.uk_money.proofs.Names.{agreed-number, agreed-case}
-use Rattle.uk.specs.Ukrainian.{agreedNumber, agreedCase}
+use Rattle.uk_money.specs.Nouns.{Name, endings, formOf, nameForms, agreedName}
+use Rattle.uk_money.specs.Currencies.{Currency, currencies}
+use Rattle.uk_money.specs.Rows.{currencyAt}
+use Rattle.uk_money.proofs.Placed.{formsAt, formPlace, form-place, forms-at}
+use Rattle.uk.specs.Ukrainian.{agreed}
+use Rattle.uk.proofs.Laws.{agrees}
 use Rattle.uk_money_read.specs.Behind.{behind}
 
 -- words that are no number words
@@ -61,8 +64,8 @@ named-is (w ∷ ws) t = let q = quiets (w ∷ ws) t in record { first = w; other
 
 -- the forms of both names of every currency
 form? : Name → ℕ → Bool
-unfolding named? quiet? nameForms formOf endings form2 noun2stGroupHardDeclensions noun2stGroupSoftDeclensions noun1stGroupSoftDeclensionsVowel noun1stGroupHardDeclensions adjectiveHardMasculine hryvnias kopiykas
-form? name p = named? (nameForms name (p / 6) (p % 6))
+unfolding named? quiet? formsAt nameForms formOf endings form2 noun2stGroupHardDeclensions noun2stGroupSoftDeclensions noun1stGroupSoftDeclensionsVowel noun1stGroupHardDeclensions adjectiveHardMasculine hryvnias kopiykas
+form? name p = named? (formsAt name p)
 
 abbrev both? : Currency → ℕ → Bool
 both? c p = form? (c .main) p && form? (c .fraction) p
@@ -71,36 +74,29 @@ forms : all 0 44 (λ i. all 0 12 (both? (currencyAt i))) ≡ true
 unfolding form? currencies
 forms = refl
 
-module _ (i n c : ℕ) (h : i < 44) (hn : n < 2) (hc : c < 6) where
-  place : ℕ
-  place = 6 * n + c
+module _ (i : ℕ) (S : Settings) (h : i < 44) (w : Within (ukrainianRanges S)) where
+  at : both? (currencyAt i) (formPlace S) ≡ true
+  at = all-at 0 12 (both? (currencyAt i)) (all-at 0 44 (λ i. all 0 12 (both? (currencyAt i))) forms i (omega arith) h) (formPlace S) (omega arith) (form-place S w)
 
-  at : both? (currencyAt i) place ≡ true
-  unfolding place
-  at = all-at 0 12 (both? (currencyAt i)) (all-at 0 44 (λ i. all 0 12 (both? (currencyAt i))) forms i (omega arith) h) place (omega arith) (omega arith)
+  by : (name : Name) → form? name (formPlace S) ≡ true → Named (nameForms S name)
+  unfolding form?
+  by name t = rw (forms-at S w name) (named-is (formsAt name (formPlace S)) t)
 
-  by : (name : Name) → form? name place ≡ true → Named (nameForms name n c)
-  unfolding form? place
-  by name t =
-      let d : (6 * n + c) / 6 ≡ n = omega arith in
-      let m : (6 * n + c) % 6 ≡ c = omega arith in
-      rw (d, m) at (named-is (nameForms name ((6 * n + c) / 6) ((6 * n + c) % 6)) t)
+  main-form : Named (nameForms S (currencyAt i .main))
+  main-form = by (currencyAt i .main) (and-left (form? (currencyAt i .main) (formPlace S)) (form? (currencyAt i .fraction) (formPlace S)) at)
 
-  main-form : Named (nameForms (currencyAt i .main) n c)
-  main-form = by (currencyAt i .main) (and-left (form? (currencyAt i .main) place) (form? (currencyAt i .fraction) place) at)
-
-  fraction-form : Named (nameForms (currencyAt i .fraction) n c)
-  fraction-form = by (currencyAt i .fraction) (and-right (form? (currencyAt i .main) place) (form? (currencyAt i .fraction) place) at)
+  fraction-form : Named (nameForms S (currencyAt i .fraction))
+  fraction-form = by (currencyAt i .fraction) (and-right (form? (currencyAt i .main) (formPlace S)) (form? (currencyAt i .fraction) (formPlace S)) at)
 
 -- the names as they agree with a count
-module _ (i case n : ℕ) (h : i < 44) (hc : case < 6) where
-  pub main-named : Named (agreedName (currencyAt i .main) case n)
+module _ (S : Settings) (w : Within (ukrainianRanges S)) (i n : ℕ) (h : i < 44) where
+  pub main-named : Named (agreedName S (currencyAt i .main) n)
   unfolding agreedName
-  main-named = main-form i (agreedNumber (n / 10 % 10) (n % 10)) (agreedCase (n / 10 % 10) (n % 10) case) h (agreed-number (n / 10 % 10) (n % 10)) (agreed-case (n / 10 % 10) (n % 10) case hc)
+  main-named = main-form i (agreed (n / 10 % 10) (n % 10) S) h (agrees (n / 10 % 10) (n % 10) S w)
 
-  pub fraction-named : Named (agreedName (currencyAt i .fraction) case n)
+  pub fraction-named : Named (agreedName S (currencyAt i .fraction) n)
   unfolding agreedName
-  fraction-named = fraction-form i (agreedNumber (n / 10 % 10) (n % 10)) (agreedCase (n / 10 % 10) (n % 10) case) h (agreed-number (n / 10 % 10) (n % 10)) (agreed-case (n / 10 % 10) (n % 10) case hc)
+  fraction-named = fraction-form i (agreed (n / 10 % 10) (n % 10) S) h (agrees (n / 10 % 10) (n % 10) S w)
 
 -- a name stops a number, and is passed
 pub name-stops : (ws tail : List Word) → Named ws → Stops (ws ++ tail)

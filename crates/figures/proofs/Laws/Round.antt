@@ -55,7 +55,7 @@ pointed-is xs e =
     let k : suc (length xs - 3) ≡ length xs - 2 = omega arith in
     sym (rw (d, k) at (split-at xs (length xs - 3) 0 i))
 
-negative-take : (k : ℕ) (xs : List ℕ) → negative xs ≡ false → negative (take k xs) ≡ false
+pub negative-take : (k : ℕ) (xs : List ℕ) → negative xs ≡ false → negative (take k xs) ≡ false
 negative-take zero xs e = refl
 negative-take (suc k) [] e = refl
 negative-take (suc k) (x ∷ r) e = e

@@ -3,7 +3,7 @@
 use mathlib.Core.Path.{refl, sym, subst}
 use native.Mathlib.Omega.{arith}
 use borrow.Author.Needs.{needs}
-use Rattle.uk_money.specs.Currencies.{currencyAt}
+use Rattle.uk_money.specs.Rows.{currencyAt}
 use Rattle.uk_money_read.specs.Promise.{ReadMoney}
 use Rattle.uk_money_read.specs.declared.Reading.{Reading}
 use Rattle.uk_money_calls.proofs.Entries.{seen-none, seen-some}
@@ -14,17 +14,17 @@ returns : tie.Need-returns
 returns c =
     let a = c .before .before .before .before .before .before .before .args in
     let p = c .before .before .before .read-money in
-    seen-none (currencyAt (a .currency)) (a .settings .case) (a .said .now) (p .last .1 .1 .1 .0) (a .out .now) (a .out .now) _
-    (subst (λ (x : Reading). ReadMoney (currencyAt (a .currency)) (a .settings .case) (a .said .now) x (p .last .1 .1 .1 .0)) (c .before .enum-told .given .1) (p .ensures .0))
-    (record { number = c .refused .ensures .0; length = c .refused .ensures .1; buffer = refl })
+    seen-none (a .settings) (currencyAt (a .currency)) (a .said .now) (p .last .1 .1 .1 .0) (a .out .now) (a .out .now) _
+    (subst (λ (x : Reading). ReadMoney (a .settings) (currencyAt (a .currency)) (a .said .now) x (p .last .1 .1 .1 .0)) (c .before .enum-told .given .1) (p .ensures .0))
+    (record { reported = c .refused .ensures .0; sized = c .refused .ensures .1; held = refl })
 
 returns-2 : tie.Need-returns-2
 returns-2 c =
     let a = c .before .before .before .before .before .before .before .before .before .before .before .before .args in
     let p = c .before .before .before .before .before .before .before .before .read-money in
     let h = c .before .before .before .before .before .before .reading .given in
-    seen-some (currencyAt (a .currency)) (a .settings .case) (a .said .now) (p .last .1 .1 .1 .0) (a .out .now) _ (c .before .before .put-money-text .result) (h .0 .0)
-    (subst (λ (x : Reading). ReadMoney (currencyAt (a .currency)) (a .settings .case) (a .said .now) x (p .last .1 .1 .1 .0)) (h .1) (p .ensures .0))
+    seen-some (a .settings) (currencyAt (a .currency)) (a .said .now) (p .last .1 .1 .1 .0) (a .out .now) _ (c .before .before .put-money-text .result) (h .0 .0)
+    (subst (λ (x : Reading). ReadMoney (a .settings) (currencyAt (a .currency)) (a .said .now) x (p .last .1 .1 .1 .0)) (h .1) (p .ensures .0))
     (c .before .before .put-money-text .ensures)
 
 put-money-text-requires : tie.Need-put-money-text-requires

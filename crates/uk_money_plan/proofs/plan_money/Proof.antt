@@ -1,14 +1,40 @@
 -- `uk_money_plan::plan_money` meets its contract: a whole amount, hundredths alone, or both.
 -- Assumes nothing.
 use borrow.Author.Needs.{needs}
-use mathlib.Core.Path.{ap, _∙_}
-use Rattle.base.specs.Join.{joined}
+use borrow.Author.Tests.{eqb-true, eqb-false}
+use mathlib.Core.Path.{sym, _∙_}
+use Rattle.figures.specs.Groups.{total}
 use Rattle.plan.proofs.Tells.{tell, told-phrase}
-use Rattle.uk_money.specs.Currencies.{currencyAt}
-use Rattle.uk_money_plan.proofs.Forms.{whole-is, hundredths-is, both-is}
+use Rattle.uk_money.specs.Rows.{currencyAt}
+use Rattle.uk_money_plan.proofs.Forms.{whole-is, part-is, both-are}
 use native.Mathlib.Omega.{arith}
 use Rattle.uk_money_plan.proofs.plan_money.Statement.{statement}
 use Rattle.uk_money_plan.proofs.plan_money.Tie as tie
+
+returns : tie.Need-returns
+returns c =
+    let s = c .before .before .before .before .before .before in
+    let a = s .args in
+    let t = c .before .before .say-main .ensures in
+    (omega (arith, t .added .near, s .pre .0 .2), told-phrase t ∙ whole-is (a .settings) (currencyAt (a .currency)) (total (a .gs .now)) (a .hundredths) (c .before .before .before .before .if1 .taken))
+
+returns-2 : tie.Need-returns-2
+returns-2 c =
+    let s = c .before .before .before .before .before .before .before in
+    let a = s .args in
+    let n = total (a .gs .now) in
+    let t = c .before .before .say-fraction .ensures in
+    (omega (arith, t .added .near),
+    told-phrase t ∙ part-is (a .settings) (currencyAt (a .currency)) n (a .hundredths) (eqb-true n 0 (sym (s .pre .1 .2) ∙ c .before .before .before .before .if2 .taken)) (c .before .before .before .before .before .if1 .left))
+
+returns-3 : tie.Need-returns-3
+returns-3 c =
+    let s = c .before .before .before .before .before .before .before .before .before .before .before in
+    let a = s .args in
+    let n = total (a .gs .now) in
+    let t = tell 50 (c .before .before .before .before .before .before .say-main2 .ensures) (c .before .before .say-fraction2 .ensures) (omega (arith, s .pre .0 .2)) in
+    (omega (arith, t .added .near),
+    told-phrase t ∙ both-are (a .settings) (currencyAt (a .currency)) n (a .hundredths) (eqb-false n 0 (sym (s .pre .1 .2) ∙ c .before .before .before .before .before .before .before .before .if2 .left)) (c .before .before .before .before .before .before .before .before .before .if1 .left))
 
 pub plan-money-spec : {M : Type 1} → statement M
 plan-money-spec =
@@ -16,13 +42,13 @@ plan-money-spec =
     (tie.spec
     (λ c κs. search needs)
     (λ c. search needs)
-    (λ c. let s = c .before .before .before .before .before .before .args in let t = c .before .before .say-main .ensures in
-    (omega (arith, t .added .near, c .before .before .before .before .before .before .pre .2), told-phrase t ∙ ap joined (whole-is (currencyAt (s .currency)) (s .settings .case) (s .zero) (s .gs .now) (s .hundredths) (c .before .before .before .before .if1 .taken))))
+    returns
     (λ c κs. search needs)
     (λ c. search needs)
-    (λ c. let s = c .before .before .before .before .before .before .before .args in let t = c .before .before .say-fraction .ensures in
-    (omega (arith, t .added .near, c .before .before .before .before .before .before .before .pre .2), told-phrase t ∙ ap joined (hundredths-is (currencyAt (s .currency)) (s .settings .case) (s .zero) (s .gs .now) (s .hundredths) (c .before .before .before .before .before .if1 .left) (c .before .before .before .before .if2 .taken))))
-    (λ c κs. search needs) (λ c κs. search needs)
+    returns-2
+    (λ c κs.
+    let s = c .before .before .before .before in
+    (search needs, (s .pre .1 .0, s .pre .1 .1, sym (c .before .if2 .left) ∙ s .pre .1 .2)))
+    (λ c κs. search needs)
     (λ c. search needs)
-    (λ c. let s = c .before .before .before .before .before .before .before .before .before .before .before .args in let t = tell 50 (c .before .before .before .before .before .before .say-main2 .ensures) (c .before .before .say-fraction2 .ensures) (omega (arith, c .before .before .before .before .before .before .before .before .before .before .before .pre .2)) in
-    (omega (arith, t .added .near, c .before .before .before .before .before .before .before .before .before .before .before .pre .2), told-phrase t ∙ ap joined (both-is (currencyAt (s .currency)) (s .settings .case) (s .zero) (s .gs .now) (s .hundredths) (c .before .before .before .before .before .before .before .before .before .if1 .left) (c .before .before .before .before .before .before .before .before .if2 .left)))))
+    returns-3)

@@ -19,4 +19,4 @@ say-name-spec =
     (λ c. search needs)
     (λ c name row. let s = c .before .before .before .before .before .before .before .before .before .before .before .before .before .before .args in let p = c .before .before .before .before .before .before .before .before .before .before .before .before .agreed in
     retell 4 (tell 4 (c .before .before .before .before .before .before .before .before .before .say-adjective .ensures) (c .before .before .say-form .ensures) (omega arith)) (omega arith)
-    (name-is name (s .row .now) row (s .case) (s .n) (p .result) (c .before .before .before .before .ending .result) (p .ensures .1) (p .ensures .2) (c .before .before .before .before .ending .ensures))))
+    (name-is (s .settings) name (s .row .now) row (s .n) (p .result) (c .before .before .before .before .ending .result) (p .ensures .1) (p .ensures .2) (c .before .before .before .before .ending .ensures))))

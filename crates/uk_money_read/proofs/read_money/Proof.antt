@@ -38,7 +38,7 @@ returns : tie.Need-returns
 returns c =
     let a = c .before .before .before .before .before .before .before .before .before .before .before .before .before in
     let m = made (c .before .before .before .before .before .before .before .before .before .before) in
-    (found (a .args .currency) (a .args .settings .case) (a .pre .1) (a .pre .0) (a .args .s .now) (c .before .before .before .before .before .before .before .before .before .before .groups .last .1 .1 .0) (m .size) (m .small) (c .before .before .before .lowest .result) (c .before .is-amount .ensures .holds (c .if1 .taken)), c .before .before .before .before .before .before .before .top .ensures .0)
+    (found (a .args .settings) (a .pre .0) (a .args .currency) (a .pre .1) (a .args .s .now) (c .before .before .before .before .before .before .before .before .before .before .groups .last .1 .1 .0) (m .size) (m .small) (c .before .before .before .lowest .result) (c .before .is-amount .ensures .holds (c .if1 .taken)), c .before .before .before .before .before .before .before .top .ensures .0)
 
 cast-alone : tie.Need-cast-alone
 cast-alone c = let m = made (c .before .before .before .before .before .before .before .before .before .before .before) in omega (arith, group-lt (c .before .before .before .before .before .before .before .before .before .before .before .groups .last .1 .1 .0) 0 (m .small) (rw (m .size) (omega arith)))
@@ -49,13 +49,13 @@ is-amount-requires-2 c κs = let a = c .before .before .before .before .before .
 returns-2 : tie.Need-returns-2
 returns-2 c =
     let a = c .before .before .before .before .before .before .before .before .before .before .before .before .before .before .before .before .before .before in
-    (found (a .args .currency) (a .args .settings .case) (a .pre .1) (a .pre .0) (a .args .s .now) (zeros 22) refl (zeros-groups 22) _ (c .before .is-amount2 .ensures .holds (c .if2 .taken)), zeros-highest 22)
+    (found (a .args .settings) (a .pre .0) (a .args .currency) (a .pre .1) (a .args .s .now) (zeros 22) refl (zeros-groups 22) _ (c .before .is-amount2 .ensures .holds (c .if2 .taken)), zeros-highest 22)
 
 returns-3 : tie.Need-returns-3
 returns-3 c =
     let a = c .before .before .before .before .before .before .before .before .before .before .before .before .before .before .before .before .before .before in
     let m = made (c .before .before .before .before .before .before .before .before .before .before .before .before .before .before .before) in (
-      refused (a .args .currency) (a .args .settings .case) (a .pre .1) (a .pre .0) (a .args .s .now) (c .before .before .before .before .before .before .before .before .before .before .before .before .before .before .before .groups .last .1 .1 .0) (zeros 22) (m .size) (m .small) refl (zeros-groups 22) refl
+      refused (a .args .settings) (a .pre .0) (a .args .currency) (a .pre .1) (a .args .s .now) (c .before .before .before .before .before .before .before .before .before .before .before .before .before .before .before .groups .last .1 .1 .0) (zeros 22) refl (zeros-groups 22) refl
           (m .groups) (c .before .before .before .before .before .before .before .before .lowest .result) (hundredths (c .before .before .before .before .before .before .before .before)) (c .before .before .before .before .before .before .is-amount .ensures .fails (c .before .before .before .before .before .if1 .left)) (c .before .is-amount2 .ensures .fails (c .if2 .left)),
       zeros-highest 22,
     )

@@ -3,7 +3,7 @@
 use mathlib.Core.Path.{refl, sym}
 use Rattle.uk_money.specs.Currencies.{currencies}
 use Rattle.uk_money.specs.Rows.{placeByKey}
-use Rattle.uk_money.proofs.Keys.{found, none}
+use Rattle.uk_money.proofs.Keys.{found, missed}
 use Rattle.uk_money.proofs.codes.place.Statement.{statement}
 use Rattle.uk_money.proofs.codes.place.Tie as tie
 
@@ -56,4 +56,4 @@ place-spec =
     (λ c. found (c .match .keys42) refl)
     (λ c. found (c .match .keys43) refl)
     (λ c. found (c .match .keys44) refl)
-    (λ c. sym (none _ currencies (c .match .rest))))
+    (λ c. sym (missed _ currencies (c .match .rest))))
