@@ -1,7 +1,7 @@
 -- `fr_plan::plan_cardinal` meets its contract.
 -- Assumes nothing.
 use borrow.Author.Needs.{needs}
-use Rattle.fr.specs.Rules.{joiner}
+use Rattle.fr.specs.Rules.{frenchJoiner}
 use Rattle.fr.specs.Cardinal.{cardinalWords, cardinalPhrase}
 use Rattle.fr_plan.proofs.Appends.{whole-phrase}
 use native.Mathlib.Omega.{arith}
@@ -15,4 +15,4 @@ plan-cardinal-spec =
     (tie.spec
     (λ c κs. search needs)
     (λ c. let a = c .before .before .args in let t = c .plan-words .ensures in
-    (omega (arith, t .near), whole-phrase (joiner (a .f)) (cardinalWords (a .f) (a .zero) (a .negative) (a .gs .now)) t, t .same)))
+    (omega (arith, t .near), whole-phrase (frenchJoiner (a .settings)) (cardinalWords (a .settings) (a .zero) (a .negative) (a .gs .now)) t, t .same)))

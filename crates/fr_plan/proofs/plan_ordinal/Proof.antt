@@ -10,7 +10,7 @@ use lib.Dec.{eqb}
 use lib.ListN.{length, getD}
 use Rattle.base.specs.Utf8.{utf8}
 use Rattle.figures.specs.Groups.{total}
-use Rattle.fr.specs.Rules.{joiner}
+use Rattle.fr.specs.Rules.{frenchJoiner}
 use Rattle.fr.specs.Cardinal.{cardinalWords, cardinalPhrase}
 use Rattle.fr.specs.Ordinal.{nth, ordinalPhrase}
 use Rattle.fr.specs.Placed.{Known}
@@ -27,13 +27,13 @@ returns c =
     let s = c .before .before .before .before .before .before in
     let t = as-word (c .join .ensures) (premier .says) in
     let e : eqb (total (s .args .gs .now)) 1 ≡ c .before .before .before .is .result = sym (c .before .before .before .is .ensures) in
-    (omega (arith, t .near), rw (e, c .before .before .if1 .taken) (whole-phrase (joiner (s .args .f)) (utf8 "premier" ∷ []) t), t .same)
+    (omega (arith, t .near), rw (e, c .before .before .if1 .taken) (whole-phrase (frenchJoiner (s .args .settings)) (utf8 "premier" ∷ []) t), t .same)
 
 -- the cardinal's plan has a last word
 some : (c : tie.After-plan-words) → 0 < c .plan-words .result
 some c =
     let s = c .before .before .before .before .before .before .before .before in
-    some-codes (c .plan-words .ensures) (rw (c .before .before .is2 .ensures) (spoken (s .args .f) (s .args .gs .now) (s .pre .2 .1) (s .pre .2 .0)))
+    some-codes (c .plan-words .ensures) (rw (c .before .before .is2 .ensures) (spoken (s .args .settings) (s .args .gs .now) (s .pre .2 .1) (s .pre .2 .0)))
 
 within : (c : tie.After-plan-words) → c .plan-words .result ≤ length (c .plan-words .last .1 .1 .1 .1 .1 .0)
 within c = omega (arith, c .plan-words .ensures .near, c .plan-words .ensures .same, c .before .before .before .before .before .before .before .before .pre .4)
@@ -48,10 +48,10 @@ returns-2 c =
     let d = c .before .before .before .before .before .before in
     let t = d .plan-words .ensures in
     let gs = s .args .gs .now in
-    let f = s .args .f in
+    let f = s .args .settings in
     let o : eqb (total gs) 1 ≡ false = sym (c .before .before .before .before .before .before .before .before .before .before .before .is .ensures) ∙ c .before .before .before .before .before .before .before .before .before .before .if1 .left in
     let z : c .before .before .before .before .before .before .before .before .is2 .result ≡ eqb (total gs) 0 = c .before .before .before .before .before .before .before .before .is2 .ensures in
-    let m : _ = whole-phrase (joiner f) (cardinalWords f (c .before .before .before .before .before .before .before .before .is2 .result) false gs) t in (
+    let m : _ = whole-phrase (frenchJoiner f) (cardinalWords f (c .before .before .before .before .before .before .before .before .is2 .result) false gs) t in (
       omega (arith, t .near, c .before .before .say .ensures .next, c .say2 .ensures .next, some d),
       ended t (some d) (within d) (c .before .before .say .ensures) (c .say2 .ensures) (c .before .before .before .before .stem .ensures .0) (c .before .before .before .before .stem .ensures .1) (ième .says)
           ∙ rw (o, ← z) (ap nth m),

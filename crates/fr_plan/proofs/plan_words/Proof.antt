@@ -14,13 +14,13 @@ plan-words-spec =
     (tie.spec
     (λ c κs. (zéro .known, omega (arith, c .before .before .pre .3)))
     (λ c. let a = c .before .before .before .args in
-    likewise 171 (as-word (c .join .ensures) (zéro .says)) (omega arith) (card-zero (a .f) (a .zero) (a .negative) (a .gs .now) (c .before .before .if1 .taken)))
+    likewise 171 (as-word (c .join .ensures) (zéro .says)) (omega arith) (card-zero (a .settings) (a .zero) (a .negative) (a .gs .now) (c .before .before .if1 .taken)))
     (λ c κs. (moins .known, omega (arith, c .before .before .before .pre .3)))
     (λ c κs. let s = c .before .before .before .before .before in (s .pre .0, s .pre .2, omega (arith, s .pre .2, s .pre .3, c .before .join2 .ensures .near, c .before .join2 .ensures .same)))
     (λ c. let s = c .before .before .before .before .before .before in let a = s .args in
     likewise 171 (after 171 (as-word (c .before .before .join2 .ensures) (moins .says)) (c .groups .ensures) (omega (arith, s .pre .2))) (omega arith)
-    (card-minus (a .f) (a .zero) (a .negative) (a .gs .now) (c .before .before .before .before .before .if1 .left) _ (zeros-words (a .f) (a .gs .now) 34 _ (s .pre .1) (s .pre .2)) (c .before .before .before .before .if2 .taken)))
+    (card-minus (a .settings) (a .zero) (a .negative) (a .gs .now) (c .before .before .before .before .before .if1 .left) _ (zeros-words (a .settings) (a .gs .now) 34 _ (s .pre .1) (s .pre .2)) (c .before .before .before .before .if2 .taken)))
     (λ c κs. let s = c .before .before .before in (s .pre .0, s .pre .2, omega (arith, s .pre .2, s .pre .3)))
     (λ c. let s = c .before .before .before .before in let a = s .args in
     likewise 171 (c .groups2 .ensures) (omega (arith, s .pre .2))
-    (card-plain (a .f) (a .zero) (a .negative) (a .gs .now) (c .before .before .before .if1 .left) _ (zeros-words (a .f) (a .gs .now) 34 _ (s .pre .1) (s .pre .2)) (c .before .before .if2 .left))))
+    (card-plain (a .settings) (a .zero) (a .negative) (a .gs .now) (c .before .before .before .if1 .left) _ (zeros-words (a .settings) (a .gs .now) 34 _ (s .pre .1) (s .pre .2)) (c .before .before .if2 .left))))
