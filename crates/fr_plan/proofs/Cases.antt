@@ -1,18 +1,19 @@
 -- The cases of the rules' words as the code's tests have them.
 -- Assumes nothing.
-use Prim.Native.Nat.{ℕ, zero, suc, _-_, _/_, _%_, _<_, _≤_}
-use mathlib.Core.Path.{_≡_, refl, sym, ap, _∙_}
+use Prim.Native.Nat.{ℕ, zero, suc, _-_, _/_, _%_, _^_, _<_, _≤_}
+use mathlib.Core.Path.{_≡_, refl, sym, ap, _∙_, subst}
 use mathlib.Core.Bool.{Bool, true, false, cond, _&&_, _||_}
 use mathlib.Core.List.{List, [], _∷_, _++_, append-nil, append-assoc}
 use native.Mathlib.Omega.{arith}
 use borrow.Author.Tests.{eqb-true, eqb-false}
 use lib.Dec.{eqb}
-use lib.ListN.{getD}
+use lib.ListN.{length, getD}
 use Rattle.tables.proofs.Tests.{both-hold}
 use Rattle.base.specs.Utf8.{utf8, form1}
 use Rattle.base.specs.Join.{Word, space, hyphen, spacedBy}
 use Rattle.settings.specs.declared.Settings.{Settings}
 use Rattle.figures.specs.Groups.{total}
+use Rattle.figures.proofs.Laws.Groups.{total-lt}
 use Rattle.groups.specs.Highest.{ZeroFrom}
 use Rattle.cardinals.specs.Cardinal.{groupOf, cardinalWords}
 use Rattle.cardinals.specs.Listed.{listed}
@@ -27,11 +28,15 @@ either : {P : Type 0} (a b : Bool) → (a || b) ≡ true → (a ≡ true → P) 
 either true b e f g = f refl
 either false b e f g = g e
 
-pub spaced-append : (j : ℕ) (us ws : List Word) → spacedBy j us ++ spacedBy j ws ≡ spacedBy j (us ++ ws)
+spaced-append : (j : ℕ) (us ws : List Word) → spacedBy j us ++ spacedBy j ws ≡ spacedBy j (us ++ ws)
 spaced-append j [] ws = refl
 spaced-append j (u ∷ us) ws = ap (λ (l : List ℕ). j ∷ l) (append-assoc u (spacedBy j us) (spacedBy j ws) ∙ ap (λ (l : List ℕ). u ++ l) (spaced-append j us ws))
 
--- one word behind the frenchJoiner
+pub spaced-some : (j : ℕ) (ws : List Word) → 0 < length ws → 0 < length (spacedBy j ws)
+spaced-some j [] h = absurd (omega arith)
+spaced-some j (w ∷ ws) h = omega arith
+
+-- one word behind the joiner
 alone : (j : ℕ) (w : Word) → j ∷ w ≡ spacedBy j (w ∷ [])
 alone j w = ap (λ (l : List ℕ). j ∷ l) (sym (append-nil w))
 
@@ -183,6 +188,10 @@ pub groups-more : (S : Settings) (j n : ℕ) (gs : List ℕ) → (n ≡ 0 → �
     → spacedBy j (groupOf (french S) (n - 1) (getD gs (n - 1) 0)) ++ spacedBy j (listed (french S) (n - 1) gs) ≡ spacedBy j (listed (french S) n gs)
 groups-more S j n gs z =
     spaced-append j (groupOf (french S) (n - 1) (getD gs (n - 1) 0)) (listed (french S) (n - 1) gs) ∙ ap (spacedBy j) (listed-more (french S) gs n z)
+
+-- 34 groups are below 1000 ^ 34
+pub groups-hold : (gs : List ℕ) → Groups34 gs → total gs < 1000 ^ 34
+groups-hold gs g = subst (λ (k : ℕ). total gs < 1000 ^ k) (g .0) (total-lt gs (g .1))
 
 -- a cardinal
 module _ (S : Settings) (gs : List ℕ) (z m : Bool) (e : z ≡ eqb (total gs) 0) where

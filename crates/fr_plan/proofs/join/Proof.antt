@@ -1,11 +1,12 @@
--- `fr_plan::join` meets its contract: the frenchJoiner is a byte, and not 0.
+-- `fr_plan::join` meets its contract: the joiner is a byte, and not 0.
 -- Assumes nothing.
 use borrow.Author.Needs.{needs}
 use Prim.Native.Nat.{_<_}
 use mathlib.Core.Bool.{Bool, true, false, cond}
 use native.Mathlib.Omega.{arith}
-use Rattle.fr.specs.Rules.{isReformed, frenchJoiner}
+use Rattle.base.specs.Join.{space, hyphen}
 use Rattle.settings.specs.declared.Settings.{Settings}
+use Rattle.fr.specs.Rules.{isReformed, frenchJoiner}
 use Rattle.fr_plan.proofs.Appends.{one-word}
 use Rattle.fr_plan.proofs.join.Statement.{statement}
 use Rattle.fr_plan.proofs.join.Tie as tie
@@ -13,7 +14,7 @@ use Rattle.fr_plan.proofs.join.Tie as tie
 joiner-byte : (S : Settings) → (0 < frenchJoiner S) × (frenchJoiner S < 256)
 joiner-byte S = go (isReformed S)
   where
-    go : (t : Bool) → (0 < cond t 45 32) × (cond t 45 32 < 256)
+    go : (t : Bool) → (0 < cond t hyphen space) × (cond t hyphen space < 256)
     go true = (omega arith, omega arith)
     go false = (omega arith, omega arith)
 
