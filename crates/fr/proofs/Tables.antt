@@ -10,12 +10,12 @@ use lib.Dec.{T, eqb}
 use lib.ListN.{length, getD, length-take, length-drop}
 use Rattle.base.specs.Utf8.{utf8, form1}
 use Rattle.base.specs.Join.{Word, space, hyphen}
+use Rattle.settings.specs.declared.Settings.{Settings}
 use Rattle.words.specs.Part.{part}
 use Rattle.fr.specs.Pool.{frPool}
 use Rattle.fr.specs.FrTables.{units, tens, teens, megas}
 use Rattle.fr.specs.Rules.{isReformed, inCH, isMille, frenchJoiner, centWord, countsOn, fourTwenties, isUne, unitWord, tenWord, roundWord, megaName, scaleWord}
 use Rattle.fr.specs.Placed.{Known, Placed, Plural}
-use Rattle.settings.specs.declared.Settings.{Settings}
 use Rattle.tables.proofs.Tests.{both-hold, all}
 use Rattle.fr.proofs.Tests.{all-at, both, both-at, placed?, placed, plural?, plural}
 use Rattle.fr.proofs.Deciders.{mille-not}

@@ -10,16 +10,16 @@ use borrow.Author.Tests.{eqb-true}
 use lib.Arith.{mod-mul}
 use lib.Dec.{eqb}
 use lib.ListN.{length}
-use Rattle.base.specs.Join.{Word, space, hyphen, joinedBy}
+use Rattle.base.specs.Join.{space, hyphen}
 use Rattle.settings.specs.Settings.{frenchRanges, Within}
 use Rattle.settings.specs.declared.Settings.{Settings}
 use Rattle.figures.specs.Groups.{total}
 use Rattle.cardinals.specs.Cardinal.{groupAt, groupOf, groupsBelow, cardinalWords, cardinalPhrase}
 use Rattle.tokens.specs.Tokens.{isGap}
-use Rattle.fr.specs.Rules.{isReformed, frenchJoiner, frenchGroup, nthWords, french}
+use Rattle.fr.specs.Rules.{isReformed, frenchJoiner, frenchGroup, french}
 use Rattle.fr.specs.Ordinal.{nthOf, nthPhrase}
 use Rattle.fr_read.specs.Reading.{meanings, Group, guess, seems, reads, isMinus, behindMinus, guessed}
-use Rattle.fr_read.proofs.Splits.{sense, sense-append, Closed, Sounds, sounds-append, sounds-closed, meanings-joined, meanings-nth}
+use Rattle.fr_read.proofs.Splits.{sense, sense-append, Sounds, sounds-append, sounds-closed, meanings-joined, meanings-nth}
 use Rattle.fr_read.proofs.Known.{zero-known, moins-means, premier-means}
 use Rattle.fr_read.proofs.Below.{zeros, reads-here, reads-over, one-below}
 use Rattle.fr_read.proofs.Bounds.{reads-length}
@@ -124,17 +124,17 @@ module _ (S : Settings) (v : Within (frenchRanges S)) where
         go (suc g) e =
             rw (front-some (suc k) (omega arith) (omega arith) (omega (arith, e))) (reads-here (suc k) (groupAt (suc k) n) (below (suc k)))
 
-    reads-below : (k : ℕ) → k ≤ 34 → total (reads k (seems 0 0 (below k))) ≡ n % 1000 ^ k
+    number-below : (k : ℕ) → k ≤ 34 → total (reads k (seems 0 0 (below k))) ≡ n % 1000 ^ k
     unfolding reads
-    reads-below zero l = sym (mod-one n)
-    reads-below (suc k) l =
+    number-below zero l = sym (mod-one n)
+    number-below (suc k) l =
         let r = reads k (seems 0 0 (below k)) in
         let m : n % 1000 ^ suc k ≡ groupAt k n * 1000 ^ k + n % 1000 ^ k = rw (pow-succ', mod-mul n {m = 1000} {c = 1000 ^ k} (omega arith) (one-le-pow k 1000 (omega arith))) refl in
-        ap total (reads-more k l) ∙ total-more r (groupAt k n) ∙ rw (reads-length k (seems 0 0 (below k)), reads-below k (omega arith), m) (omega arith)
+        ap total (reads-more k l) ∙ total-more r (groupAt k n) ∙ rw (reads-length k (seems 0 0 (below k)), number-below k (omega arith), m) (omega arith)
 
     all-groups : n < 1000 ^ 34 → total (guessed (below 34)) ≡ n
     unfolding guessed
-    all-groups h = reads-below 34 (omega arith) ∙ mod-eq-of-lt h
+    all-groups h = number-below 34 (omega arith) ∙ mod-eq-of-lt h
 
     no-sign : isMinus (below 34) ≡ false
     no-sign = not-minus (below 34) (order-below 33 (omega arith))

@@ -3,7 +3,7 @@
 use Prim.Native.Nat.{ℕ, zero, suc, _+_, _-_, _*_, _<_}
 use mathlib.Core.Path.{_≡_, refl}
 use mathlib.Core.Bool.{Bool, true, false, _&&_}
-use mathlib.Core.List.{List, [], _∷_, _++_}
+use mathlib.Core.List.{List, [], _∷_}
 use native.Mathlib.Omega.{arith}
 use borrow.Author.Tests.{eqb-true}
 use lib.Dec.{T, eqb, ltb}
@@ -12,13 +12,13 @@ use Rattle.base.specs.Join.{Word}
 use Rattle.tokens.specs.Tokens.{split, whole, key}
 use Rattle.meanings.specs.Lookup.{lookup}
 use Rattle.fr_meanings.specs.Meanings.{shifts, table, meaningOf}
-use Rattle.fr.specs.FrTables.{units, tens, teens, megas}
 use Rattle.settings.specs.Settings.{frenchSettings, frenchRanges, Within}
-use Rattle.fr.specs.Rules.{tenWord, roundWord, link, unitWord, pairWord, tensWords, megaName, scaleWord, withoutE, nth}
 use Rattle.settings.specs.declared.Settings.{Settings}
+use Rattle.fr.specs.FrTables.{units, tens, teens, megas}
+use Rattle.fr.specs.Rules.{tenWord, roundWord, link, unitWord, pairWord, tensWords, megaName, scaleWord, withoutE, nth}
 use Rattle.base.specs.Same.{sameText}
 use Rattle.tables.proofs.Tests.{all}
-use Rattle.fr.proofs.Tests.{yes-of, and-left, and-right, all-at, both, both-at, same-eq}
+use Rattle.fr.proofs.Tests.{yes-of, and-left, and-right, all-at, same-eq}
 use Rattle.fr_read.specs.Reading.{meanings, grow}
 use Rattle.fr_read.proofs.Splits.{closed, sense, Sound, Sounds}
 

@@ -9,10 +9,10 @@ use borrow.Author.Tests.{ltb-true, lt-ltb, le-ltb, ne-eqb, eqb-true}
 use lib.Dec.{eqb, ltb}
 use Rattle.tables.proofs.Tests.{both-hold}
 use Rattle.base.specs.Utf8.{utf8, form1}
-use Rattle.fr.specs.FrTables.{units}
 use Rattle.settings.specs.Settings.{frenchRanges, Within}
-use Rattle.fr.specs.Rules.{isMille, centWord, hundredWords, tensWords, numberWords, scaleWords, frenchGroup}
 use Rattle.settings.specs.declared.Settings.{Settings}
+use Rattle.fr.specs.FrTables.{units}
+use Rattle.fr.specs.Rules.{isMille, centWord, hundredWords, tensWords, numberWords, scaleWords, frenchGroup}
 use Rattle.fr_read.specs.Reading.{meanings, grow, times, one, guess, seems}
 use Rattle.fr_read.proofs.Splits.{sense, sense-append, Sounds, sounds-append}
 use Rattle.fr_read.proofs.Known.{Known, unit-known, scale-known, cent-known, cents-known, grows, smalls, low-adds}
