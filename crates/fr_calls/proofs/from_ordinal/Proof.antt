@@ -1,23 +1,49 @@
--- `fr_calls::from_ordinal` meets its contract.
--- Assumes nothing.
 use borrow.Author.Needs.{needs}
-use mathlib.Core.Path.{sym, _∙_}
-use Rattle.fr.specs.Settings.{french}
-use Rattle.fr_calls.specs.Calls.{OrdinalMeans}
-use Rattle.fr_calls.proofs.Theorems.{ranges}
-use Rattle.fr_calls.proofs.Answers.{refuses, reads-settled, reads-unsettled}
 use Rattle.fr_calls.proofs.from_ordinal.Statement.{statement}
 use Rattle.fr_calls.proofs.from_ordinal.Tie as tie
+use Rattle.fr_calls.proofs.from_ordinal.Reads as reads
+use Rattle.fr_calls.proofs.from_ordinal.Lts as lts
+use Rattle.base.proofs.refused.Reads as refused-reads
+use Rattle.fr_calls.proofs.read_ordinal.Reads as read-ordinal-reads
+use Rattle.settings.proofs.french.Reads as french-reads
+use Rattle.settings.proofs.is_french.Reads as is-french-reads
+
+-- src/lib.rt:152:8
+is-french-requires : tie.Need-is-french-requires
+is-french-requires c κs = search needs
+
+-- src/lib.rt:153:22
+french-requires : tie.Need-french-requires
+french-requires c κs = ?
+
+-- src/lib.rt:153:9
+read-ordinal-requires : tie.Need-read-ordinal-requires
+read-ordinal-requires c κs = ?
+
+-- src/lib.rt:155:9
+refused-requires : tie.Need-refused-requires
+refused-requires c κs = search needs
+
+-- src/lib.rt:143:1
+same-length : tie.Need-same-length
+same-length c = search needs
+
+-- src/lib.rt:143:1
+returns : tie.Need-returns
+returns c = ?
+
+-- src/lib.rt:143:1
+returns-2 : tie.Need-returns-2
+returns-2 c = ?
 
 pub from-ordinal-spec : {M : Type 1} → statement M
 from-ordinal-spec =
     tie.close
     (tie.spec
-    (λ c κs. search needs)
-    (λ c κs. let a = c .before .before .before .before .before .args in ranges (french (a .feminine) (a .reformed) (a .region)) (sym (c .before .before .in-range .ensures) ∙ c .before .if1 .taken))
-    (λ c κs. search needs)
-    (λ c. search needs)
-    (λ c. let a = c .before .before .before .before .before .before .before .before .args in let F = french (a .feminine) (a .reformed) (a .region) in
-    reads-settled F (a .said .now) (a .said .now) (a .out .now) _ _ (OrdinalMeans F) (sym (c .before .before .before .before .before .in-range .ensures) ∙ c .before .before .before .before .if1 .taken) (c .before .before .read-ordinal .ensures))
-    (λ c. let a = c .before .before .before .before .before .args in let F = french (a .feminine) (a .reformed) (a .region) in
-    reads-unsettled F (a .said .now) (a .said .now) (a .out .now) _ _ (OrdinalMeans F) (sym (c .before .before .in-range .ensures) ∙ c .before .if1 .left) (refuses _ (a .out .now) 1 (c .refused .ensures))))
+    is-french-requires
+    french-requires
+    read-ordinal-requires
+    refused-requires
+    same-length
+    returns
+    returns-2)

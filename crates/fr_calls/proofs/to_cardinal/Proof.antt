@@ -1,26 +1,48 @@
--- `fr_calls::to_cardinal` meets its contract.
--- Assumes nothing.
-use borrow.Author.Needs.{needs}
-use native.Mathlib.Omega.{arith}
-use mathlib.Core.Path.{sym, _∙_}
-use mathlib.Core.Bool.{true}
-use Rattle.base.proofs.Replies.{refused-as, said}
-use Rattle.fr.specs.Settings.{french}
-use Rattle.fr_calls.specs.Calls.{cardinalRefusal}
-use Rattle.fr_calls.proofs.Theorems.{ranges, admitted}
-use Rattle.fr_calls.proofs.Answers.{none-first}
 use Rattle.fr_calls.proofs.to_cardinal.Statement.{statement}
 use Rattle.fr_calls.proofs.to_cardinal.Tie as tie
+use Rattle.fr_calls.proofs.to_cardinal.Reads as reads
+use Rattle.fr_calls.proofs.to_cardinal.Lts as lts
+use Rattle.base.proofs.refused.Reads as refused-reads
+use Rattle.fr_calls.proofs.refuse_cardinal.Reads as refuse-cardinal-reads
+use Rattle.fr_calls.proofs.spell_cardinal.Reads as spell-cardinal-reads
+use Rattle.settings.proofs.french.Reads as french-reads
+
+-- src/lib.rt:104:9
+refuse-cardinal-requires : tie.Need-refuse-cardinal-requires
+refuse-cardinal-requires c κs = ?
+
+-- src/lib.rt:106:24
+french-requires : tie.Need-french-requires
+french-requires c κs = ?
+
+-- src/lib.rt:106:9
+spell-cardinal-requires : tie.Need-spell-cardinal-requires
+spell-cardinal-requires c κs = ?
+
+-- src/lib.rt:108:9
+refused-requires : tie.Need-refused-requires
+refused-requires c κs = ?
+
+-- src/lib.rt:100:1
+same-length : tie.Need-same-length
+same-length c = ?
+
+-- src/lib.rt:100:1
+returns : tie.Need-returns
+returns c = ?
+
+-- src/lib.rt:100:1
+returns-2 : tie.Need-returns-2
+returns-2 c = ?
 
 pub to-cardinal-spec : {M : Type 1} → statement M
 to-cardinal-spec =
     tie.close
     (tie.spec
-    (λ c κs. search needs)
-    (λ c κs. let a = c .before .before .before .before .before .args in let F = french (a .feminine) (a .reformed) (a .region) in
-    let p = none-first F (cardinalRefusal (a .text .now)) _ (c .before .before .refusal .ensures) (c .before .if1 .taken) in let f = admitted true (a .text .now) (p .1) in
-    (ranges F (p .0), f .formed, f .within))
-    (λ c κs. search needs)
-    (λ c. search needs)
-    (λ c. let a = c .before .before .before .before .before .before .before .before .args in (said _ (a .out .now) _ _ _ (sym (c .before .before .before .before .before .refusal .ensures) ∙ c .before .before .before .before .if1 .taken) (c .before .before .spell-cardinal .ensures .0), c .before .before .spell-cardinal .ensures .1))
-    (λ c. let a = c .before .before .before .before .before .args in (refused-as _ (a .out .now) _ _ _ (c .refused .ensures) (c .before .before .refusal .ensures) (c .before .if1 .left), omega (arith, c .refused .ensures .1))))
+    refuse-cardinal-requires
+    french-requires
+    spell-cardinal-requires
+    refused-requires
+    same-length
+    returns
+    returns-2)

@@ -1,26 +1,48 @@
--- `fr_calls::to_ordinal` meets its contract.
--- Assumes nothing.
-use borrow.Author.Needs.{needs}
-use native.Mathlib.Omega.{arith}
-use mathlib.Core.Path.{sym, _∙_}
-use mathlib.Core.Bool.{false}
-use Rattle.base.proofs.Replies.{refused-as, said}
-use Rattle.fr.specs.Settings.{french}
-use Rattle.fr_calls.specs.Calls.{ordinalRefusal}
-use Rattle.fr_calls.proofs.Theorems.{ranges, admitted}
-use Rattle.fr_calls.proofs.Answers.{none-first}
 use Rattle.fr_calls.proofs.to_ordinal.Statement.{statement}
 use Rattle.fr_calls.proofs.to_ordinal.Tie as tie
+use Rattle.fr_calls.proofs.to_ordinal.Reads as reads
+use Rattle.fr_calls.proofs.to_ordinal.Lts as lts
+use Rattle.base.proofs.refused.Reads as refused-reads
+use Rattle.fr_calls.proofs.refuse_ordinal.Reads as refuse-ordinal-reads
+use Rattle.fr_calls.proofs.spell_ordinal.Reads as spell-ordinal-reads
+use Rattle.settings.proofs.french.Reads as french-reads
+
+-- src/lib.rt:117:9
+refuse-ordinal-requires : tie.Need-refuse-ordinal-requires
+refuse-ordinal-requires c κs = ?
+
+-- src/lib.rt:119:23
+french-requires : tie.Need-french-requires
+french-requires c κs = ?
+
+-- src/lib.rt:119:9
+spell-ordinal-requires : tie.Need-spell-ordinal-requires
+spell-ordinal-requires c κs = ?
+
+-- src/lib.rt:121:9
+refused-requires : tie.Need-refused-requires
+refused-requires c κs = ?
+
+-- src/lib.rt:113:1
+same-length : tie.Need-same-length
+same-length c = ?
+
+-- src/lib.rt:113:1
+returns : tie.Need-returns
+returns c = ?
+
+-- src/lib.rt:113:1
+returns-2 : tie.Need-returns-2
+returns-2 c = ?
 
 pub to-ordinal-spec : {M : Type 1} → statement M
 to-ordinal-spec =
     tie.close
     (tie.spec
-    (λ c κs. search needs)
-    (λ c κs. let a = c .before .before .before .before .before .args in let F = french (a .feminine) (a .reformed) (a .region) in
-    let p = none-first F (ordinalRefusal (a .text .now)) _ (c .before .before .refusal .ensures) (c .before .if1 .taken) in let f = admitted false (a .text .now) (p .1) in
-    (ranges F (p .0), f .formed, f .within))
-    (λ c κs. search needs)
-    (λ c. search needs)
-    (λ c. let a = c .before .before .before .before .before .before .before .before .args in (said _ (a .out .now) _ _ _ (sym (c .before .before .before .before .before .refusal .ensures) ∙ c .before .before .before .before .if1 .taken) (c .before .before .spell-ordinal .ensures .0), c .before .before .spell-ordinal .ensures .1))
-    (λ c. let a = c .before .before .before .before .before .args in (refused-as _ (a .out .now) _ _ _ (c .refused .ensures) (c .before .before .refusal .ensures) (c .before .if1 .left), omega (arith, c .refused .ensures .1))))
+    refuse-ordinal-requires
+    french-requires
+    spell-ordinal-requires
+    refused-requires
+    same-length
+    returns
+    returns-2)
