@@ -1,48 +1,51 @@
+-- `fr_calls::to_cardinal` meets its contract.
+-- Assumes nothing.
+use borrow.Author.Needs.{needs}
+use native.Mathlib.Omega.{arith}
+use mathlib.Core.Path.{_≡_, sym, _∙_}
+use mathlib.Core.Bool.{true, false}
+use lib.ListN.{length}
+use Rattle.base.proofs.Replies.{refused-as, said}
+use Rattle.settings.specs.Settings.{frenchSettings, frenchRanges, within}
+use Rattle.settings.proofs.Ranges.{within-holds}
+use Rattle.figures.specs.Text.{wellFormed, unsigned}
+use Rattle.figures.specs.Refusals.{cardinalRefusals, Admitted}
+use Rattle.figures.proofs.Laws.Refusals.{passed}
+use Rattle.fr_calls.specs.FrCalls.{frToCardinal}
+use Rattle.fr_calls.proofs.Answers.{none-first}
 use Rattle.fr_calls.proofs.to_cardinal.Statement.{statement}
 use Rattle.fr_calls.proofs.to_cardinal.Tie as tie
-use Rattle.fr_calls.proofs.to_cardinal.Reads as reads
-use Rattle.fr_calls.proofs.to_cardinal.Lts as lts
-use Rattle.base.proofs.refused.Reads as refused-reads
-use Rattle.fr_calls.proofs.refuse_cardinal.Reads as refuse-cardinal-reads
-use Rattle.fr_calls.proofs.spell_cardinal.Reads as spell-cardinal-reads
-use Rattle.settings.proofs.french.Reads as french-reads
 
--- src/lib.rt:104:9
-refuse-cardinal-requires : tie.Need-refuse-cardinal-requires
-refuse-cardinal-requires c κs = ?
+-- nothing is refused
+none : (c : tie.Then1) → let a = c .before .before .before .before .args in (within (frenchRanges (frenchSettings (a .feminine) (a .reformed) (a .region))) ≡ true) × Admitted (cardinalRefusals 102 (a .text .now))
+none c = let a = c .before .before .before .before .args in none-first (frenchRanges (frenchSettings (a .feminine) (a .reformed) (a .region))) (cardinalRefusals 102 (a .text .now)) (sym (c .before .refuse-cardinal .ensures) ∙ c .if1 .taken)
 
--- src/lib.rt:106:24
-french-requires : tie.Need-french-requires
-french-requires c κs = ?
-
--- src/lib.rt:106:9
 spell-cardinal-requires : tie.Need-spell-cardinal-requires
-spell-cardinal-requires c κs = ?
+spell-cardinal-requires c κs =
+    let p = none (c .before .before) in
+    let a = c .before .before .before .before .before .before .args in
+    let t = a .text .now in
+    let f = passed (wellFormed t) false (length (unsigned t)) 102 (p .1) in
+    (rw (c .before .french .ensures) (within-holds (frenchRanges (frenchSettings (a .feminine) (a .reformed) (a .region))) (p .0)), f .formed, f .within)
 
--- src/lib.rt:108:9
-refused-requires : tie.Need-refused-requires
-refused-requires c κs = ?
-
--- src/lib.rt:100:1
-same-length : tie.Need-same-length
-same-length c = ?
-
--- src/lib.rt:100:1
 returns : tie.Need-returns
-returns c = ?
+returns c =
+    let s = c .before .before .spell-cardinal .ensures in
+    let a = c .before .before .before .before .before .before .before .before .before .args in
+    let p = frToCardinal (frenchSettings (a .feminine) (a .reformed) (a .region)) (a .text .now) in
+    (said _ (a .out .now) _ (p .phrase) (p .refusal) (sym (c .before .before .before .before .before .before .refuse-cardinal .ensures) ∙ c .before .before .before .before .before .if1 .taken) (rw (c .before .before .before .before .french .ensures) at (s .0)), s .1)
 
--- src/lib.rt:100:1
 returns-2 : tie.Need-returns-2
-returns-2 c = ?
+returns-2 c = (refused-as _ (c .before .before .before .before .before .args .out .now) _ _ _ (c .refused .ensures) (c .before .before .refuse-cardinal .ensures) (c .before .if1 .left), omega (arith, c .refused .ensures .1))
 
 pub to-cardinal-spec : {M : Type 1} → statement M
 to-cardinal-spec =
     tie.close
     (tie.spec
-    refuse-cardinal-requires
-    french-requires
+    (λ c κs. search needs)
+    (λ c κs. none c .0)
     spell-cardinal-requires
-    refused-requires
-    same-length
+    (λ c κs. search needs)
+    (λ c. search needs)
     returns
     returns-2)
