@@ -1,11 +1,10 @@
 -- The calls' answers against their definitions.
 -- Assumes nothing.
-use Prim.Native.Nat.{ℕ, _+_, _/_, _^_, _<_, _≤_}
-use mathlib.Core.Path.{_≡_, refl, sym, ap, _∙_}
+use Prim.Native.Nat.{ℕ, _+_, _/_, _≤_}
+use mathlib.Core.Path.{_≡_, refl, sym, ap}
 use mathlib.Core.Bool.{Bool, true, false, not, cond}
 use mathlib.Core.List.{List, [], _∷_}
 use native.Mathlib.Omega.{arith}
-use lib.Dec.{eqb}
 use lib.ListN.{length}
 use Rattle.tables.proofs.Tests.{clash-of as clash}
 use Rattle.base.specs.Answer.{refused, fitted, firstOf, Answers, Reads, ReadsUnless}
@@ -18,14 +17,13 @@ use Rattle.figures.specs.Written.{signedDecimal}
 use Rattle.figures.specs.Groups.{groupsOf, total}
 use Rattle.figures.specs.Refusals.{Admitted}
 use Rattle.figures.specs.Seen.{seenAs, ReadOf}
-use Rattle.figures.specs.declared.Seen.{Seen}
 use Rattle.figures.specs.declared.Seen.the-variants.{Refused, Plain}
 use Rattle.figures.proofs.Laws.Groups.{hold, groups-length, groups-below, total-groups}
 use Rattle.figures.proofs.Laws.Plain.{plain-digits}
 use Rattle.figures.proofs.Laws.Sign.{formed-unsigned}
 use Rattle.groups.specs.Highest.{Highest}
 use Rattle.groups.proofs.Highest.{counted}
-use Rattle.numerals.proofs.Readings.{Bounded, read-right}
+use Rattle.numerals.proofs.Readings.{read-right}
 use Rattle.fr.specs.Grammar.{SaysNth}
 use Rattle.fr_plan.specs.Groups34.{Groups34}
 use Rattle.fr_read.specs.Promise.{ReadNth}
