@@ -46,13 +46,13 @@ module _ (Says : List ℕ → Bool → ℕ → Type 0) (phrase : Bool → ℕ �
 
   module _ (once : (s : List ℕ) (k l : Bool) (m n : ℕ) → Says s k m → Says s l n → (k ≡ l) × (m ≡ n))
       (decided : (s : List ℕ) → Dec ((k : Bool) × ((m : ℕ) × Says s k m))) where
-    abbrev Fine : List ℕ → Type 0
-    Fine t = judged (not (wellFormed t)) (isRefused (negative t)) (ltb 102 (length (unsigned t))) ≡ 0
+    abbrev AdmittedText : List ℕ → Type 0
+    AdmittedText t = judged (not (wellFormed t)) (isRefused (negative t)) (ltb 102 (length (unsigned t))) ≡ 0
 
-    abbrev phraseOf : List ℕ → List ℕ
-    phraseOf t = phrase (negative t) (value (unsigned t))
+    abbrev textPhrase : List ℕ → List ℕ
+    textPhrase t = phrase (negative t) (value (unsigned t))
 
-    has-phrase : (t : List ℕ) → Fine t → NumberMeans (Says (phraseOf t)) t
+    has-phrase : (t : List ℕ) → AdmittedText t → NumberMeans (Says (textPhrase t)) t
     has-phrase t a =
         let f = passed (wellFormed t) (isRefused (negative t)) (length (unsigned t)) 102 a in
         let h = hold 34 (unsigned t) (plain-digits (unsigned t) (formed-unsigned t (f .formed))) (f .within) in
@@ -63,7 +63,7 @@ module _ (Says : List ℕ → Bool → ℕ → Type 0) (phrase : Bool → ℕ �
           valued = record { formed = f .formed; sign = refl; means = refl };
         }
 
-    has-value : (s t : List ℕ) → NumberMeans (Says s) t → Fine t × (phraseOf t ≡ s)
+    has-value : (s t : List ℕ) → NumberMeans (Says s) t → AdmittedText t × (textPhrase t ≡ s)
     has-value s t p =
         let w = said s (p .minus) (p .magnitude) (p .says) in
         let x = p .valued in
@@ -75,11 +75,11 @@ module _ (Says : List ℕ → Bool → ℕ → Type 0) (phrase : Bool → ℕ �
         let e = once s (p .minus) (q .minus) (p .magnitude) (q .magnitude) (p .says) (q .says) in
         number-is (p .valued) (bounded s .small (p .says)) ∙ rw (e .0, e .1) (sym (number-is (q .valued) (bounded s .small (q .says))))
 
-    readable : Readable Fine phraseOf (λ (s t : List ℕ). NumberMeans (Says s) t)
+    readable : Readable AdmittedText textPhrase (λ (s t : List ℕ). NumberMeans (Says s) t)
     readable = record {
       spelled = has-phrase;
       value = has-value;
-      oneText = λ t u a b e. one-value (phraseOf u) t u (subst (λ (s : List ℕ). NumberMeans (Says s) t) e (has-phrase t a)) (has-phrase u b);
+      oneText = λ t u a b e. one-value (textPhrase u) t u (subst (λ (s : List ℕ). NumberMeans (Says s) t) e (has-phrase t a)) (has-phrase u b);
       oneValue = one-value;
       decided = λ s. go s (decided s);
     }

@@ -173,15 +173,15 @@ module _ (S : Settings) (v : Within (frenchRanges S)) where
   own-words k (suc (suc t)) zero r = r
   own-words k (suc (suc t)) (suc u) r = r
 
-  high-words : (k t u : ℕ) → Adds (tensWords own 2 t u) (10 * t + u) → Adds (tensWords own (suc (suc k)) t u) (10 * t + u)
+  higher-words : (k t u : ℕ) → Adds (tensWords own 2 t u) (10 * t + u) → Adds (tensWords own (suc (suc k)) t u) (10 * t + u)
   unfolding tensWords roundWord pairWord unitWord
-  high-words k zero zero r = r
-  high-words k zero (suc u) r = r
-  high-words k (suc zero) u r = r
-  high-words k (suc (suc t)) zero r = r
-  high-words k (suc (suc t)) (suc u) r = r
+  higher-words k zero zero r = r
+  higher-words k zero (suc u) r = r
+  higher-words k (suc zero) u r = r
+  higher-words k (suc (suc t)) zero r = r
+  higher-words k (suc (suc t)) (suc u) r = r
 
   pub low-adds : (k t u : ℕ) → t < 10 → u < 10 → Adds (tensWords S k t u) (10 * t + u)
   low-adds zero t u a b = own-words 0 t u (low-at 0 t u (omega arith) a b)
   low-adds (suc zero) t u a b = own-words 1 t u (low-at 1 t u (omega arith) a b)
-  low-adds (suc (suc k)) t u a b = own-words (suc (suc k)) t u (high-words k t u (low-at 2 t u (omega arith) a b))
+  low-adds (suc (suc k)) t u a b = own-words (suc (suc k)) t u (higher-words k t u (low-at 2 t u (omega arith) a b))
