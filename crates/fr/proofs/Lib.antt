@@ -3,5 +3,4 @@ pub mod Listed
 pub mod Tables
 pub mod Stems
 pub mod Deciders
-pub mod Unique
-pub mod Sentences
+pub mod Ordinals

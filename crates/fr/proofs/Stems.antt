@@ -9,7 +9,7 @@ use lib.ListN.{length, getD, take, drop}
 use lib.Seq.{take-take}
 use Rattle.words.specs.Part.{part}
 use Rattle.fr.specs.Pool.{frPool}
-use Rattle.fr.specs.Ordinal.{withoutE}
+use Rattle.fr.specs.Rules.{withoutE}
 use Rattle.fr.specs.Placed.{Known}
 
 -- the last byte is `e`, or another

@@ -7,13 +7,12 @@ use native.Mathlib.Omega.{arith}
 use native.Mathlib.Numerals.{add-one}
 use lib.ListN.{length, take, set, length-set}
 use lib.Seq.{take-suc-set}
-use Rattle.base.specs.Join.{Word}
+use Rattle.base.specs.Join.{Word, spacedBy, joinedBy}
 use Rattle.words.specs.Part.{part}
 use Rattle.plan.specs.Phrase.{gap, following, phrase}
 use Rattle.plan.specs.Plan.{pieceOf, pieces, says}
 use Rattle.plan.proofs.Laws.{following-append}
 use Rattle.fr.specs.Pool.{frPool}
-use Rattle.fr.specs.Rules.{spacedBy, joinedBy}
 use Rattle.fr.specs.Placed.{Known}
 use Rattle.fr_plan.specs.Appended.{Pushed, AllKnown, Opens, Appended}
 

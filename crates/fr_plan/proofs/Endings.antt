@@ -11,7 +11,7 @@ use Rattle.words.specs.Part.{part}
 use Rattle.plan.specs.Phrase.{Piece, gap, following, phrase}
 use Rattle.plan.specs.Plan.{pieceOf, pieces, says}
 use Rattle.plan.proofs.Laws.{following-append}
-use Rattle.fr.specs.Ordinal.{withoutE, nth}
+use Rattle.fr.specs.Rules.{withoutE, nth}
 use Rattle.fr.specs.Pool.{frPool}
 use Rattle.fr.specs.Placed.{Known}
 use Rattle.fr.proofs.Stems.{drop-last}

@@ -1,4 +1,3 @@
 pub mod Appends
 pub mod Cases
-pub mod Said
 pub mod Endings

@@ -152,24 +152,24 @@ fn group(settings: Settings, order: usize, g: u16, plan: &mut [u32], at: usize) 
     scale_words(settings, order, n, plan, b)
 }
 
-// The groups below order n, from the highest down: each call has one order fewer. The settings and the plan go by reference, and nothing is left to
-// do behind the call, so that the compiler makes a loop of it: what goes by value is copied for each call.
+// The groups below order n, from the highest down: in a loop, since a function that calls itself copies the settings each time.
 fn groups(
-    settings: &Settings,
+    settings: Settings,
     n: usize,
     gs: &[u16; ORDERS],
     plan: &mut [u32; PLAN],
     at: usize,
 ) -> usize
-    requires { ⌜ Within (frenchRanges (now settings)) × (n ≤ 34) × (at + 5 * n ≤ length (now plan)) ⌝ }
-    ensures { λ r. ⌜ Appended (5 * n) (now (plan .entry)) at (now (plan .exit)) r (spacedBy (frenchJoiner (now (settings .entry))) (listed (french (now (settings .entry))) n (now (gs .entry)))) ⌝ }
+    requires { ⌜ Within (frenchRanges settings) × (n ≤ 34) × (at + 5 * n ≤ length (now plan)) ⌝ }
+    ensures { λ r. ⌜ Appended (5 * n) (now (plan .entry)) at (now (plan .exit)) r (spacedBy (frenchJoiner settings) (listed (french settings) n (now (gs .entry)))) ⌝ }
 {
-    if n == 0 {
-        return at;
+    let mut order = n;
+    let mut next = at;
+    while 0 < order {
+        order -= 1;
+        next = group(settings, order, gs[order], plan, next);
     }
-    let order = n - 1;
-    let k = group(*settings, order, gs[order], plan, at);
-    groups(settings, order, gs, plan, k)
+    next
 }
 
 // The plan of a cardinal: zero's word, or the minus word if negative and the groups, of which those from n on are 0.
@@ -190,9 +190,9 @@ fn plan_words(
     }
     if negative {
         let at = join(settings, fr::MOINS, plan, 0);
-        return groups(&settings, n, gs, plan, at);
+        return groups(settings, n, gs, plan, at);
     }
-    groups(&settings, n, gs, plan, 0)
+    groups(settings, n, gs, plan, 0)
 }
 
 // The plan of a cardinal's phrase, of a number whose groups have n orders.

@@ -2,8 +2,8 @@
 -- Assumes nothing.
 use Prim.Native.Nat.{ℕ, zero, suc, _+_, _-_, _*_, _<_}
 use mathlib.Core.Path.{_≡_, refl}
-use mathlib.Core.Bool.{Bool, true, cond, _&&_}
-use mathlib.Core.List.{List, [], _∷_, _++_}
+use mathlib.Core.Bool.{Bool, true, false, _&&_}
+use mathlib.Core.List.{List, [], _∷_}
 use native.Mathlib.Omega.{arith}
 use borrow.Author.Tests.{eqb-true}
 use lib.Dec.{T, eqb, ltb}
@@ -12,13 +12,13 @@ use Rattle.base.specs.Join.{Word}
 use Rattle.tokens.specs.Tokens.{split, whole, key}
 use Rattle.meanings.specs.Lookup.{lookup}
 use Rattle.fr_meanings.specs.Meanings.{shifts, table, meaningOf}
+use Rattle.settings.specs.Settings.{frenchSettings, frenchRanges, Within}
+use Rattle.settings.specs.declared.Settings.{Settings}
 use Rattle.fr.specs.FrTables.{units, tens, teens, megas}
-use Rattle.fr.specs.Rules.{InRange, tenWord, roundWord, link, unitWord, pairWord, lowWords}
-use Rattle.fr.specs.Ordinal.{withoutE, nth}
-use Rattle.fr.specs.declared.French.{French}
+use Rattle.fr.specs.Rules.{tenWord, roundWord, link, unitWord, pairWord, tensWords, megaName, scaleWord, withoutE, nth}
 use Rattle.base.specs.Same.{sameText}
 use Rattle.tables.proofs.Tests.{all}
-use Rattle.fr.proofs.Tests.{yes-of, and-left, and-right, all-at, both, both-at, same-eq}
+use Rattle.fr.proofs.Tests.{yes-of, and-left, and-right, all-at, same-eq}
 use Rattle.fr_read.specs.Reading.{meanings, grow}
 use Rattle.fr_read.proofs.Splits.{closed, sense, Sound, Sounds}
 
@@ -60,22 +60,24 @@ units-known = tt
 pub unit-known : (u : ℕ) → 0 < u → u < 10 → Known (form1 units (u - 1)) u
 unit-known u a b = known u (form1 units (u - 1)) (all-at 1 9 (λ u. known? u (form1 units (u - 1))) units-known u a (omega arith))
 
-abbrev plural : Bool → Word
-plural b = cond b [] (utf8 "s")
+-- of a group's number the scale word asks only whether it is 1
+scales-known : T (all 1 33 (λ k. all 1 2 (λ g. known? (1000 + k) (scaleWord k g))))
+unfolding known? sound? scaleWord megaName form1 megas
+scales-known = tt
 
--- `mille` has no plural
-scales-known : T (known? 1001 (form1 megas 0 ++ [])) × T (all 2 32 (λ k. both (λ b. known? (1000 + k) (form1 megas (k - 1) ++ plural b))))
-unfolding known? sound? form1 megas
-scales-known = (tt, tt)
+module _ (k : ℕ) (h : 0 < k) (l : k < 34) where
+  scale-tests : (g : ℕ) → 0 < g → g < 3 → Known (scaleWord k g) (1000 + k)
+  scale-tests g a b =
+      known (1000 + k) (scaleWord k g)
+      (all-at 1 2 (λ g. known? (1000 + k) (scaleWord k g)) (all-at 1 33 (λ k. all 1 2 (λ g. known? (1000 + k) (scaleWord k g))) scales-known k h (omega arith)) g a (omega arith))
 
-pub mille-known : Known (form1 megas 0 ++ []) 1001
-mille-known = known 1001 (form1 megas 0 ++ []) (scales-known .0)
-
-pub scale-known : (k : ℕ) (b : Bool) → 1 < k → k < 34 → Known (form1 megas (k - 1) ++ plural b) (1000 + k)
-scale-known k b h l =
-    known (1000 + k) (form1 megas (k - 1) ++ plural b)
-    (both-at (λ b. known? (1000 + k) (form1 megas (k - 1) ++ plural b))
-    (all-at 2 32 (λ k. both (λ b. known? (1000 + k) (form1 megas (k - 1) ++ plural b))) (scales-known .1) k h (omega arith)) b)
+  pub scale-known : (g : ℕ) → Known (scaleWord k g) (1000 + k)
+  unfolding scaleWord
+  scale-known g = go (eqb g 1) refl
+    where
+      go : (t : Bool) → eqb g 1 ≡ t → Known (scaleWord k g) (1000 + k)
+      go true e = rw (eqb-true g 1 e) (scale-tests 1 (omega arith) (omega arith))
+      go false e = rw e (scale-tests 2 (omega arith) (omega arith))
 
 pub cent-known : Known (utf8 "cent") 100
 unfolding known? sound?
@@ -134,43 +136,52 @@ adds ws v t =
       small = yes-of (smalls (sense ws)) (and-right e (smalls (sense ws)) r);
     }
 
-low? : French → ℕ → Bool
-unfolding lowWords roundWord tenWord pairWord link unitWord form1 units tens teens
-low? F k = all 0 10 (λ t. all 0 10 (λ u. adds? (lowWords F k t u) (10 * t + u)))
+low? : Settings → ℕ → Bool
+unfolding tensWords roundWord tenWord pairWord link unitWord form1 units tens teens
+low? S k = all 0 10 (λ t. all 0 10 (λ u. adds? (tensWords S k t u) (10 * t + u)))
 
-abbrev settings : ℕ → ℕ → ℕ → French
-settings f r g = record { feminine = f; reformed = r; region = g }
-
-lows-add : T (all 0 2 (λ f. all 0 2 (λ r. all 0 3 (λ g. all 0 3 (λ k. low? (settings f r g) k)))))
+lows-add : T (all 0 2 (λ f. all 0 2 (λ r. all 0 3 (λ g. all 0 3 (λ k. low? (frenchSettings f r g) k)))))
 unfolding low? adds? sound?
 lows-add = tt
 
-module _ (F : French) (v : InRange F) where
-  low-tests : (k : ℕ) → k < 3 → T (low? F k)
-  low-tests k h =
-      all-at 0 3 (λ k. low? F k)
-      (all-at 0 3 (λ g. all 0 3 (λ k. low? (settings (F .feminine) (F .reformed) g) k))
-      (all-at 0 2 (λ r. all 0 3 (λ g. all 0 3 (λ k. low? (settings (F .feminine) r g) k)))
-      (all-at 0 2 (λ f. all 0 2 (λ r. all 0 3 (λ g. all 0 3 (λ k. low? (settings f r g) k)))) lows-add (F .feminine) (omega arith) (v .0)) (F .reformed)
-      (omega arith) (v .1)) (F .region) (omega arith) (v .2)) k (omega arith) h
+module _ (S : Settings) (v : Within (frenchRanges S)) where
+  -- the settings that French has
+  abbrev own : Settings
+  own = frenchSettings (S .gender) (S .reformed) (S .region)
 
-  low-at : (k t u : ℕ) → k < 3 → t < 10 → u < 10 → Adds (lowWords F k t u) (10 * t + u)
+  low-tests : (k : ℕ) → k < 3 → T (low? own k)
+  low-tests k h =
+      all-at 0 3 (λ k. low? own k)
+      (all-at 0 3 (λ g. all 0 3 (λ k. low? (frenchSettings (S .gender) (S .reformed) g) k))
+      (all-at 0 2 (λ r. all 0 3 (λ g. all 0 3 (λ k. low? (frenchSettings (S .gender) r g) k)))
+      (all-at 0 2 (λ f. all 0 2 (λ r. all 0 3 (λ g. all 0 3 (λ k. low? (frenchSettings f r g) k)))) lows-add (S .gender) (omega arith) (v .0)) (S .reformed)
+      (omega arith) (v .1 .0)) (S .region) (omega arith) (v .1 .1 .0)) k (omega arith) h
+
+  low-at : (k t u : ℕ) → k < 3 → t < 10 → u < 10 → Adds (tensWords own k t u) (10 * t + u)
   unfolding low?
   low-at k t u h a b =
-      adds (lowWords F k t u) (10 * t + u)
-      (all-at 0 10 (λ u. adds? (lowWords F k t u) (10 * t + u))
-      (all-at 0 10 (λ t. all 0 10 (λ u. adds? (lowWords F k t u) (10 * t + u))) (low-tests k h) t (omega arith) a) u (omega arith) b)
+      adds (tensWords own k t u) (10 * t + u)
+      (all-at 0 10 (λ u. adds? (tensWords own k t u) (10 * t + u))
+      (all-at 0 10 (λ t. all 0 10 (λ u. adds? (tensWords own k t u) (10 * t + u))) (low-tests k h) t (omega arith) a) u (omega arith) b)
 
-  -- above order 1 the words are those of order 2
-  pub low-adds : (k t u : ℕ) → t < 10 → u < 10 → Adds (lowWords F k t u) (10 * t + u)
-  unfolding lowWords roundWord pairWord unitWord
-  low-adds zero t u a b = low-at 0 t u (omega arith) a b
-  low-adds (suc zero) t u a b = low-at 1 t u (omega arith) a b
-  low-adds (suc (suc k)) t u a b = above t u (low-at 2 t u (omega arith) a b)
-    where
-      above : (t u : ℕ) → Adds (lowWords F 2 t u) (10 * t + u) → Adds (lowWords F (suc (suc k)) t u) (10 * t + u)
-      above zero zero r = r
-      above zero (suc u) r = r
-      above (suc zero) u r = r
-      above (suc (suc t)) zero r = r
-      above (suc (suc t)) (suc u) r = r
+  -- the words ask for no other settings, and above order 1 they are those of order 2
+  own-words : (k t u : ℕ) → Adds (tensWords own k t u) (10 * t + u) → Adds (tensWords S k t u) (10 * t + u)
+  unfolding tensWords roundWord tenWord pairWord link unitWord
+  own-words k zero zero r = r
+  own-words k zero (suc u) r = r
+  own-words k (suc zero) u r = r
+  own-words k (suc (suc t)) zero r = r
+  own-words k (suc (suc t)) (suc u) r = r
+
+  higher-words : (k t u : ℕ) → Adds (tensWords own 2 t u) (10 * t + u) → Adds (tensWords own (suc (suc k)) t u) (10 * t + u)
+  unfolding tensWords roundWord pairWord unitWord
+  higher-words k zero zero r = r
+  higher-words k zero (suc u) r = r
+  higher-words k (suc zero) u r = r
+  higher-words k (suc (suc t)) zero r = r
+  higher-words k (suc (suc t)) (suc u) r = r
+
+  pub low-adds : (k t u : ℕ) → t < 10 → u < 10 → Adds (tensWords S k t u) (10 * t + u)
+  low-adds zero t u a b = own-words 0 t u (low-at 0 t u (omega arith) a b)
+  low-adds (suc zero) t u a b = own-words 1 t u (low-at 1 t u (omega arith) a b)
+  low-adds (suc (suc k)) t u a b = own-words (suc (suc k)) t u (higher-words k t u (low-at 2 t u (omega arith) a b))

@@ -6,4 +6,3 @@ pub mod Guesses
 pub mod Bounds
 pub mod Decided
 pub mod Cases
-pub mod Promises

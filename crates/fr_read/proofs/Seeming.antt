@@ -9,12 +9,13 @@ use borrow.Author.Tests.{ltb-true, lt-ltb, le-ltb, ne-eqb, eqb-true}
 use lib.Dec.{eqb, ltb}
 use Rattle.tables.proofs.Tests.{both-hold}
 use Rattle.base.specs.Utf8.{utf8, form1}
-use Rattle.fr.specs.FrTables.{units, megas}
-use Rattle.fr.specs.Rules.{InRange, isMille, centWord, hundredWords, lowWords, numberWords, scaleWords, groupWords}
-use Rattle.fr.specs.declared.French.{French}
+use Rattle.settings.specs.Settings.{frenchRanges, Within}
+use Rattle.settings.specs.declared.Settings.{Settings}
+use Rattle.fr.specs.FrTables.{units}
+use Rattle.fr.specs.Rules.{isMille, centWord, hundredWords, tensWords, numberWords, scaleWords, frenchGroup}
 use Rattle.fr_read.specs.Reading.{meanings, grow, times, one, guess, seems}
 use Rattle.fr_read.proofs.Splits.{sense, sense-append, Sounds, sounds-append}
-use Rattle.fr_read.proofs.Known.{Known, unit-known, mille-known, scale-known, cent-known, cents-known, grows, smalls, low-adds}
+use Rattle.fr_read.proofs.Known.{Known, unit-known, scale-known, cent-known, cents-known, grows, smalls, low-adds}
 
 -- words below a hundred add up
 seems-small : (h c : ℕ) (ms R : List ℕ) → smalls ms ≡ true → seems h c (ms ++ R) ≡ seems h (grows c ms) R
@@ -68,49 +69,47 @@ hundred-seems k (suc (suc h)) b R l =
 scale-sense : (k g : ℕ) → 0 < k → k < 34 → Sounds (scaleWords k g) × (sense (scaleWords k g) ≡ (1000 + k) ∷ [])
 unfolding scaleWords
 scale-sense zero g a b = absurd (omega arith)
-scale-sense (suc zero) g a b = ((mille-known .sound, tt), rw (mille-known .means) refl)
-scale-sense (suc (suc k)) g a b =
-    let e : suc (suc k) - 1 ≡ suc k = omega arith in
-    let w : Known (form1 megas (suc k) ++ cond (eqb g 1) [] (utf8 "s")) (1000 + suc (suc k)) = rw e at (scale-known (suc (suc k)) (eqb g 1) (omega arith) b) in
+scale-sense (suc k) g a b =
+    let w = scale-known (suc k) a b g in
     ((w .sound, tt), rw (w .means) refl)
 
-module _ (F : French) (v : InRange F) where
+module _ (S : Settings) (v : Within (frenchRanges S)) where
   -- a number: its hundreds, and what is below them
-  number-sounds : (k g : ℕ) → Sounds (numberWords F k g)
+  number-sounds : (k g : ℕ) → Sounds (numberWords S k g)
   number-sounds k g =
-      sounds-append (hundredWords k (g / 100 % 10) (g % 100)) (lowWords F k (g / 10 % 10) (g % 10))
-      (hundred-sounds k (g / 100 % 10) (g % 100) (omega arith)) (low-adds F v k (g / 10 % 10) (g % 10) (omega arith) (omega arith) .sounds)
+      sounds-append (hundredWords k (g / 100 % 10) (g % 100)) (tensWords S k (g / 10 % 10) (g % 10))
+      (hundred-sounds k (g / 100 % 10) (g % 100) (omega arith)) (low-adds S v k (g / 10 % 10) (g % 10) (omega arith) (omega arith) .sounds)
 
-  number-seems : (k g : ℕ) (R : List ℕ) → seems 0 0 (sense (numberWords F k g) ++ R) ≡ seems (g / 100 % 10) (10 * (g / 10 % 10) + g % 10) R
+  number-seems : (k g : ℕ) (R : List ℕ) → seems 0 0 (sense (numberWords S k g) ++ R) ≡ seems (g / 100 % 10) (10 * (g / 10 % 10) + g % 10) R
   number-seems k g R =
       let h = hundredWords k (g / 100 % 10) (g % 100) in
-      let l = lowWords F k (g / 10 % 10) (g % 10) in
-      let a = low-adds F v k (g / 10 % 10) (g % 10) (omega arith) (omega arith) in
+      let l = tensWords S k (g / 10 % 10) (g % 10) in
+      let a = low-adds S v k (g / 10 % 10) (g % 10) (omega arith) (omega arith) in
       ap (λ (m : List ℕ). seems 0 0 m) (ap (λ (m : List ℕ). m ++ R) (sense-append h l) ∙ append-assoc (sense h) (sense l) R)
       ∙ hundred-seems k (g / 100 % 10) (g % 100) (sense l ++ R) (omega arith)
       ∙ seems-small (g / 100 % 10) 0 (sense l) R (a .small) ∙ ap (λ (c : ℕ). seems (g / 100 % 10) c R) (a .sum)
 
   -- a group
-  pub group-sounds : (k g : ℕ) → k < 34 → Sounds (groupWords F k g)
-  unfolding groupWords scaleWords
-  group-sounds zero g l = rw (append-nil (numberWords F 0 g)) (number-sounds 0 g)
+  pub group-sounds : (k g : ℕ) → k < 34 → Sounds (frenchGroup S k g)
+  unfolding frenchGroup scaleWords
+  group-sounds zero g l = rw (append-nil (numberWords S 0 g)) (number-sounds 0 g)
   group-sounds (suc k) g l = go (isMille (suc k) && eqb g 1)
     where
-      go : (t : Bool) → Sounds (cond t [] (numberWords F (suc k) g) ++ scaleWords (suc k) g)
+      go : (t : Bool) → Sounds (cond t [] (numberWords S (suc k) g) ++ scaleWords (suc k) g)
       go true = scale-sense (suc k) g (omega arith) l .0
-      go false = sounds-append (numberWords F (suc k) g) (scaleWords (suc k) g) (number-sounds (suc k) g) (scale-sense (suc k) g (omega arith) l .0)
+      go false = sounds-append (numberWords S (suc k) g) (scaleWords (suc k) g) (number-sounds (suc k) g) (scale-sense (suc k) g (omega arith) l .0)
 
   digits : (g : ℕ) → g < 1000 → 100 * (g / 100 % 10) + (10 * (g / 10 % 10) + g % 10) ≡ g
   digits g l = omega arith
 
-  pub lowest-seems : (g : ℕ) → g < 1000 → seems 0 0 (sense (groupWords F 0 g)) ≡ guess g 0 []
-  unfolding groupWords scaleWords seems
+  pub lowest-seems : (g : ℕ) → g < 1000 → seems 0 0 (sense (frenchGroup S 0 g)) ≡ guess g 0 []
+  unfolding frenchGroup scaleWords seems
   lowest-seems g l =
-      rw (append-nil (numberWords F 0 g))
-      (ap (λ (m : List ℕ). seems 0 0 m) (sym (append-nil (sense (numberWords F 0 g)))) ∙ number-seems 0 g [] ∙ ap (λ (x : ℕ). guess x 0 []) (digits g l))
+      rw (append-nil (numberWords S 0 g))
+      (ap (λ (m : List ℕ). seems 0 0 m) (sym (append-nil (sense (numberWords S 0 g)))) ∙ number-seems 0 g [] ∙ ap (λ (x : ℕ). guess x 0 []) (digits g l))
 
-  pub group-seems : (k g : ℕ) (R : List ℕ) → 0 < k → k < 34 → 0 < g → g < 1000 → seems 0 0 (sense (groupWords F k g) ++ R) ≡ guess g k R
-  unfolding groupWords
+  pub group-seems : (k g : ℕ) (R : List ℕ) → 0 < k → k < 34 → 0 < g → g < 1000 → seems 0 0 (sense (frenchGroup S k g) ++ R) ≡ guess g k R
+  unfolding frenchGroup
   group-seems k g R a b p l = go (isMille k && eqb g 1) refl
     where
       s : sense (scaleWords k g) ≡ (1000 + k) ∷ []
@@ -119,13 +118,13 @@ module _ (F : French) (v : InRange F) where
       o : 1000 + k - 1000 ≡ k
       o = omega arith
 
-      go : (t : Bool) → (isMille k && eqb g 1) ≡ t → seems 0 0 (sense (cond t [] (numberWords F k g) ++ scaleWords k g) ++ R) ≡ guess g k R
+      go : (t : Bool) → (isMille k && eqb g 1) ≡ t → seems 0 0 (sense (cond t [] (numberWords S k g) ++ scaleWords k g) ++ R) ≡ guess g k R
       go true e =
           let q = both-hold (isMille k) (eqb g 1) e in
           rw (s, eqb-true g 1 (q .1)) (seems-scale 0 0 (1000 + k) R (omega arith) ∙ rw o refl)
       go false e =
           let u : one (100 * (g / 100 % 10) + (10 * (g / 10 % 10) + g % 10)) ≡ g = rw (digits g l, ne-eqb g 0 (λ z. omega arith)) refl in
-          ap (λ (m : List ℕ). seems 0 0 (m ++ R)) (sense-append (numberWords F k g) (scaleWords k g))
-          ∙ ap (λ (m : List ℕ). seems 0 0 m) (append-assoc (sense (numberWords F k g)) (sense (scaleWords k g)) R)
+          ap (λ (m : List ℕ). seems 0 0 (m ++ R)) (sense-append (numberWords S k g) (scaleWords k g))
+          ∙ ap (λ (m : List ℕ). seems 0 0 m) (append-assoc (sense (numberWords S k g)) (sense (scaleWords k g)) R)
           ∙ number-seems k g (sense (scaleWords k g) ++ R)
           ∙ rw s (seems-scale (g / 100 % 10) (10 * (g / 10 % 10) + g % 10) (1000 + k) R (omega arith) ∙ rw (u, o) refl)

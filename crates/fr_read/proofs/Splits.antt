@@ -6,15 +6,12 @@ use mathlib.Core.Bool.{Bool, true, false, cond, not}
 use mathlib.Core.List.{List, [], _∷_, _++_, append-nil, append-assoc, map, map-append}
 use native.Mathlib.Omega.{arith}
 use borrow.Author.Tests.{not-true}
-use lib.ListN.{length, length-append}
+use lib.ListN.{length}
 use Rattle.tables.proofs.Tests.{clash-of as clash}
-use Rattle.base.specs.Utf8.{utf8}
-use Rattle.base.specs.Join.{Word}
+use Rattle.base.specs.Join.{Word, spacedBy, joinedBy}
 use Rattle.tokens.specs.Tokens.{isGap, toFirst, split}
 use Rattle.tokens.proofs.Words.{split-first}
-use Rattle.fr.specs.Rules.{spacedBy, joinedBy}
-use Rattle.fr.specs.Ordinal.{withoutE, nth}
-use Rattle.fr.proofs.Stems.{drop-last}
+use Rattle.fr.specs.Rules.{nth, nthWords}
 use Rattle.fr_read.specs.Reading.{meant, meanings}
 
 -- the last byte is no gap
@@ -76,46 +73,16 @@ pub sounds-closed : (ws : List Word) → Sounds ws → Closed ws
 sounds-closed [] s = tt
 sounds-closed (w ∷ ws) s = (s .0 .alone, sounds-closed ws (s .1))
 
-closed-some : (w : Word) → closed w ≡ true → 0 < length w
-closed-some [] e = clash e
-closed-some (b ∷ w) e = omega arith
-
 -- the ending goes to the last word
-abbrev nthWords : List Word → List Word
-nthWords [] = []
-nthWords (w ∷ []) = nth w ∷ []
-nthWords (w ∷ v ∷ ws) = w ∷ nthWords (v ∷ ws)
-
-nth-behind : (a s : List ℕ) → 0 < length s → nth (a ++ s) ≡ a ++ nth s
-unfolding nth
-nth-behind a s h = rw (drop-last a s h) (append-assoc a (withoutE s) (utf8 "ième"))
-
-nth-words : (v : Word) (ws : List Word) → Sounds (v ∷ ws) → (0 < length (nthWords (v ∷ ws))) × ((j : ℕ) → nth (joinedBy j (v ∷ ws)) ≡ joinedBy j (nthWords (v ∷ ws)))
-nth-words v [] s = (omega arith, λ j. rw (append-nil v, append-nil (nth v)) refl)
-nth-words v (w ∷ ws) s =
-    let r = nth-words w ws (s .1) in (
-      omega arith,
-      λ j.
-          nth-behind v (j ∷ joinedBy j (w ∷ ws)) (omega arith)
-          ∙ ap (λ (l : List ℕ). v ++ l) (nth-behind (j ∷ []) (joinedBy j (w ∷ ws)) (long j (closed-some w (s .1 .0 .alone))) ∙ ap (λ (l : List ℕ). j ∷ l) (r .1 j))
-          ∙ spread v j (nthWords (w ∷ ws)) (r .0),
-    )
-  where
-    long : (j : ℕ) → 0 < length w → 0 < length (w ++ spacedBy j ws)
-    long j h = rw (length-append w (spacedBy j ws)) (omega arith)
-
-    spread : (v : Word) (j : ℕ) (us : List Word) → 0 < length us → v ++ (j ∷ joinedBy j us) ≡ joinedBy j (v ∷ us)
-    spread v j [] h = absurd (omega arith)
-    spread v j (u ∷ us) h = refl
-
 nth-sense : (ws : List Word) → Sounds ws → Closed (nthWords ws) × (sense (nthWords ws) ≡ sense ws)
+unfolding nthWords
 nth-sense [] s = (tt, refl)
 nth-sense (w ∷ []) s = ((s .0 .ended, tt), ap (λ (l : List ℕ). l ++ []) (s .0 .same))
 nth-sense (w ∷ v ∷ ws) s =
     let r = nth-sense (v ∷ ws) (s .1) in
     ((s .0 .alone, r .0), ap (λ (l : List ℕ). meanings w ++ l) (r .1))
 
-pub meanings-nth : (j : ℕ) (w : Word) (ws : List Word) → isGap j ≡ true → Sounds (w ∷ ws) → meanings (nth (joinedBy j (w ∷ ws))) ≡ sense (w ∷ ws)
-meanings-nth j w ws e s =
-    let r = nth-sense (w ∷ ws) s in
-    ap meanings (nth-words w ws s .1 j) ∙ meanings-joined j (nthWords (w ∷ ws)) e (r .0) ∙ r .1
+pub meanings-nth : (j : ℕ) (ws : List Word) → isGap j ≡ true → Sounds ws → meanings (joinedBy j (nthWords ws)) ≡ sense ws
+meanings-nth j ws e s =
+    let r = nth-sense ws s in
+    meanings-joined j (nthWords ws) e (r .0) ∙ r .1

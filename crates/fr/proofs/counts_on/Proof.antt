@@ -8,6 +8,6 @@ pub counts-on-spec : {M : Type 1} → statement M
 counts-on-spec =
     tie.close
     (tie.spec
-    (λ c. on-seven (c .before .before .before .args .f) (c .before .before .before .args .t) (c .before .if1 .taken) (c .if2 .taken))
-    (λ c. on-nine (c .before .before .before .args .f) (c .before .before .before .args .t) (c .before .if1 .taken) (c .if2 .left))
-    (λ c. on-elsewhere (c .before .before .args .f) (c .before .before .args .t) (c .if1 .left)))
+    (λ c. on-seven (c .before .before .before .args .settings) (c .before .before .before .args .t) (c .before .if1 .taken) (c .if2 .taken))
+    (λ c. on-nine (c .before .before .before .args .settings) (c .before .before .before .args .t) (c .before .if1 .taken) (c .if2 .left))
+    (λ c. on-elsewhere (c .before .before .args .settings) (c .before .before .args .t) (c .if1 .left)))

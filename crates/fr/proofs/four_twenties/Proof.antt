@@ -8,5 +8,5 @@ pub four-twenties-spec : {M : Type 1} → statement M
 four-twenties-spec =
     tie.close
     (tie.spec
-    (λ c. twenties-eight (c .before .before .args .f) (c .before .before .args .t) (c .before .if1 .taken))
-    (λ c. twenties-not (c .before .args .f) (c .before .args .t) (c .if1 .left)))
+    (λ c. twenties-eight (c .before .before .args .settings) (c .before .before .args .t) (c .before .if1 .taken))
+    (λ c. twenties-not (c .before .args .settings) (c .before .args .t) (c .if1 .left)))

@@ -12,6 +12,6 @@ hundred-spec =
     tie.close
     (tie.spec
     (λ c. search needs) (λ c. search needs) (λ c. search needs)
-    (λ c. let s = c .before .before .before in hundred-word (s .args .f) (s .args .h) true (s .pre .0) (s .pre .1) (eq-eqb _ 1 (c .before .if1 .taken)))
+    (λ c. let s = c .before .before .before in hundred-word (s .args .settings) (s .args .h) true (s .pre .0) (s .pre .1) (eq-eqb _ 1 (c .before .if1 .taken)))
     (λ c. search needs) (λ c. search needs) (λ c. search needs)
-    (λ c. let s = c .before .before .before in hundred-word (s .args .f) (s .args .h) false (s .pre .0) (s .pre .1) (ne-eqb _ 1 (c .before .if1 .left))))
+    (λ c. let s = c .before .before .before in hundred-word (s .args .settings) (s .args .h) false (s .pre .0) (s .pre .1) (ne-eqb _ 1 (c .before .if1 .left))))

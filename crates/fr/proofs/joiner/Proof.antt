@@ -8,5 +8,5 @@ pub joiner-spec : {M : Type 1} → statement M
 joiner-spec =
     tie.close
     (tie.spec
-    (λ c. joins-reformed (c .before .before .args .f) (c .if1 .taken))
-    (λ c. joins-old (c .before .before .args .f) (c .if1 .left)))
+    (λ c. joins-reformed (c .before .before .args .settings) (c .if1 .taken))
+    (λ c. joins-old (c .before .before .args .settings) (c .if1 .left)))

@@ -11,6 +11,6 @@ scale-spec =
     (tie.spec
     (λ c. search needs) (λ c. search needs)
     (λ c. let a = c .before .args in mille-word (a .order) (a .g) (c .if1 .taken))
-    (λ c. let s = c .before .before in let a = s .args in rw (← scale-one (a .order) (a .g) _ (c .if2 .taken) (c .before .if1 .left)) (scale-word (a .order) (a .g) (c .before .if1 .left) (s .pre .0) (s .pre .1) .one))
+    (λ c. let s = c .before .before in let a = s .args in rw (← scale-one (a .order) (a .g) (c .before .if1 .left) (c .if2 .taken)) (scale-word (a .order) (a .g) (c .before .if1 .left) (s .pre .0) (s .pre .1) .one))
     (λ c. let s = c .before .before in let a = s .args in record { fits = known-fits _ (scale-word (a .order) (a .g) (c .before .if1 .left) (s .pre .0) (s .pre .1) .more .known) })
-    (λ c. let s = c .before .before in let a = s .args in rw (← scale-more (a .order) (a .g) _ (c .if2 .left) (c .before .if1 .left)) (scale-word (a .order) (a .g) (c .before .if1 .left) (s .pre .0) (s .pre .1) .more)))
+    (λ c. let s = c .before .before in let a = s .args in rw (← scale-more (a .order) (a .g) (c .before .if1 .left) (c .if2 .left)) (scale-word (a .order) (a .g) (c .before .if1 .left) (s .pre .0) (s .pre .1) .more)))

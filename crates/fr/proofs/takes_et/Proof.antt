@@ -11,7 +11,7 @@ takes-et-spec =
     tie.close
     (tie.spec
     (λ c κs. search needs)
-    (λ c. et-twenties (c .before .before .before .args .f) (c .before .before .before .args .t) (c .before .before .before .args .u) (c .before .before .if1 .taken) (sym (c .before .four-twenties .ensures) ∙ c .if2 .taken))
-    (λ c. et-nine (c .before .before .before .before .before .args .f) (c .before .before .before .before .before .args .t) (c .before .before .before .before .before .args .u) (c .before .before .before .before .if1 .taken) (sym (c .before .before .before .four-twenties .ensures) ∙ c .before .before .if2 .left) (c .before .if3 .taken))
-    (λ c. et-other (c .before .before .before .before .args .f) (c .before .before .before .before .args .t) (c .before .before .before .before .args .u) (c .before .before .before .if1 .taken) (sym (c .before .before .four-twenties .ensures) ∙ c .before .if2 .left) (c .if3 .left))
-    (λ c. et-not (c .before .args .f) (c .before .args .t) (c .before .args .u) (c .if1 .left)))
+    (λ c. et-twenties (c .before .before .before .args .settings) (c .before .before .before .args .t) (c .before .before .before .args .u) (c .before .before .if1 .taken) (sym (c .before .four-twenties .ensures) ∙ c .if2 .taken))
+    (λ c. et-nine (c .before .before .before .before .before .args .settings) (c .before .before .before .before .before .args .t) (c .before .before .before .before .before .args .u) (c .before .before .before .before .if1 .taken) (sym (c .before .before .before .four-twenties .ensures) ∙ c .before .before .if2 .left) (c .before .if3 .taken))
+    (λ c. et-other (c .before .before .before .before .args .settings) (c .before .before .before .before .args .t) (c .before .before .before .before .args .u) (c .before .before .before .if1 .taken) (sym (c .before .before .four-twenties .ensures) ∙ c .before .if2 .left) (c .if3 .left))
+    (λ c. et-not (c .before .args .settings) (c .before .args .t) (c .before .args .u) (c .if1 .left)))

@@ -11,6 +11,6 @@ ten-spec =
     tie.close
     (tie.spec
     (λ c κs. search needs)
-    (λ c. let a = c .before .before .args in twenties-word (a .f) (a .t) (sym (c .before .four-twenties .ensures) ∙ c .if1 .taken))
+    (λ c. let a = c .before .before .args in twenties-word (a .settings) (a .t) (sym (c .before .four-twenties .ensures) ∙ c .if1 .taken))
     (λ c. search needs) (λ c. search needs)
-    (λ c. let s = c .before .before in ten-word (s .args .f) (s .args .t) (s .pre .2) (s .pre .0) (s .pre .1) (s .pre .3) (sym (c .before .four-twenties .ensures) ∙ c .if1 .left)))
+    (λ c. let s = c .before .before in ten-word (s .args .settings) (s .args .t) (s .pre .2 .1 .1 .0) (s .pre .0) (s .pre .1) (s .pre .3) (sym (c .before .four-twenties .ensures) ∙ c .if1 .left)))

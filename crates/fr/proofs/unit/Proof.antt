@@ -11,6 +11,6 @@ unit-spec =
     tie.close
     (tie.spec
     (λ c κs. search needs)
-    (λ c. let a = c .before .before .args in une-unit (a .f) (a .order) (a .u) (sym (c .before .is-une .ensures) ∙ c .if1 .taken))
+    (λ c. let a = c .before .before .args in une-unit (a .settings) (a .order) (a .u) (sym (c .before .is-une .ensures) ∙ c .if1 .taken))
     (λ c. search needs) (λ c. search needs)
-    (λ c. let s = c .before .before in let a = s .args in plain-unit (a .f) (a .order) (a .u) (s .pre .0) (s .pre .1) (sym (c .before .is-une .ensures) ∙ c .if1 .left)))
+    (λ c. let s = c .before .before in let a = s .args in plain-unit (a .settings) (a .order) (a .u) (s .pre .0) (s .pre .1) (sym (c .before .is-une .ensures) ∙ c .if1 .left)))

@@ -3,8 +3,10 @@
 use borrow.Author.Needs.{needs}
 use native.Mathlib.Omega.{arith}
 use mathlib.Core.Path.{sym}
-use Rattle.fr.specs.Grammar.{Says}
+use Rattle.cardinals.specs.Grammar.{Says}
+use Rattle.fr.specs.Rules.{french}
 use Rattle.numerals.proofs.Readings.{read-right}
+use Rattle.fr_calls.proofs.Theorems.{bounded-cardinal}
 use Rattle.fr_calls.proofs.read_cardinal.Statement.{statement}
 use Rattle.fr_calls.proofs.read_cardinal.Tie as tie
 
@@ -16,4 +18,4 @@ read-cardinal-spec =
     (λ c. sym (c .before .read-cardinal .ensures .1 .0))
     (λ c κs. let p = c .before .before .read-cardinal .ensures in ((p .1 .1, p .2), (omega (arith, p .1 .0), omega (arith, p .1 .0))))
     (λ c. search needs)
-    (λ c. let a = c .before .before .before .before .before .before .before .before .before .args in read-right (Says (a .f)) (a .said .now) _ (a .out .now) _ _ _ (c .before .before .before .before .before .read-cardinal .ensures .0) (c .before .before .put-read .ensures)))
+    (λ c. let a = c .before .before .before .before .before .before .before .before .before .args in read-right (Says (french (a .settings))) (a .said .now) _ (a .out .now) _ _ (bounded-cardinal (a .settings) (a .said .now)) _ (c .before .before .before .before .before .read-cardinal .ensures .0) (c .before .before .put-read .ensures)))

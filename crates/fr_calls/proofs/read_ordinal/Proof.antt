@@ -16,5 +16,5 @@ read-ordinal-spec =
     (λ c κs. let p = c .before .before .before .read-ordinal .ensures in ((p .1 .1, p .2), (omega (arith, p .1 .0), omega (arith, p .1 .0))))
     (λ c κs. search needs)
     (λ c. search needs)
-    (λ c. let a = c .before .before .before .before .before .before .before .before .before .before .args in let p = c .before .before .before .before .before .before .read-ordinal in ordinal-some (a .f) (a .said .now) (p .last .1 .1 .0) (a .out .now) _ _ _ (p .ensures .0) (c .before .before .before .before .before .if1 .taken) (c .before .before .put-number .ensures))
-    (λ c. let a = c .before .before .before .before .before .before .args in let p = c .before .before .read-ordinal in ordinal-none (a .f) (a .said .now) (p .last .1 .1 .0) (a .out .now) (a .out .now) _ _ (p .ensures .0) (c .before .if1 .left) (refuses _ (a .out .now) 6 (c .refused .ensures))))
+    (λ c. let a = c .before .before .before .before .before .before .before .before .before .before .args in let p = c .before .before .before .before .before .before .read-ordinal in ordinal-some (a .settings) (a .said .now) (p .last .1 .1 .0) (a .out .now) _ _ _ (p .ensures .0) (c .before .before .before .before .before .if1 .taken) (c .before .before .put-number .ensures))
+    (λ c. let a = c .before .before .before .before .before .before .args in let p = c .before .before .read-ordinal in ordinal-none (a .settings) (a .said .now) (p .last .1 .1 .0) (a .out .now) (a .out .now) _ _ (p .ensures .0) (c .before .if1 .left) (refuses _ (a .out .now) 6 (c .refused .ensures))))

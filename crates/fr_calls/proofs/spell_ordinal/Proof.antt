@@ -2,24 +2,32 @@
 -- Assumes nothing.
 use borrow.Author.Needs.{needs}
 use native.Mathlib.Omega.{arith}
-use mathlib.Core.Path.{_≡_}
+use mathlib.Core.Path.{_≡_, ap, _∙_}
 use Rattle.figures.specs.Text.{unsigned}
 use Rattle.figures.proofs.Laws.Plain.{plain-digits}
 use Rattle.figures.proofs.Laws.Sign.{formed-unsigned}
 use Rattle.plan.specs.Phrase.{phrase}
 use Rattle.plan.specs.Plan.{says}
 use Rattle.fr.specs.Pool.{frPool}
+use Rattle.fr.specs.Ordinal.{nthPhrase}
 use Rattle.base.proofs.Replies.{heard}
-use Rattle.fr_calls.specs.Calls.{ordinalOf}
-use Rattle.fr_calls.proofs.Theorems.{small}
-use Rattle.fr_calls.proofs.Answers.{planned-ordinal, text-groups, text-orders}
+use Rattle.fr_calls.specs.FrCalls.{frToOrdinal}
+use Rattle.fr_calls.proofs.Answers.{text-groups, text-total, text-orders}
 use Rattle.fr_calls.proofs.spell_ordinal.Statement.{statement}
 use Rattle.fr_calls.proofs.spell_ordinal.Tie as tie
 
-phrase-is : (c : tie.After-plan-ordinal) → phrase (says frPool (c .plan-ordinal .last .1 .1 .1 .1 .0) (c .plan-ordinal .result)) ≡ ordinalOf (c .before .before .before .before .before .before .before .before .before .before .args .f) (c .before .before .before .before .before .before .before .before .before .before .args .text .now)
+phrase-is : (c : tie.After-plan-ordinal) → let a = c .before .before .before .before .before .before .before .before .before .before .args in phrase (says frPool (c .plan-ordinal .last .1 .1 .1 .1 .0) (c .plan-ordinal .result)) ≡ frToOrdinal (a .settings) (a .text .now) .phrase
 phrase-is c =
     let s = c .before .before .before .before .before .before .before .before .before .before in
-    planned-ordinal (s .args .f) (s .args .text .now) _ _ _ _ (small (s .args .text .now) (s .pre .1) (s .pre .2)) (c .before .before .before .before .before .before .after-sign .ensures) (c .before .before .before .before .before .groups34 .ensures) (c .plan-ordinal .ensures .1)
+    c .plan-ordinal .ensures .1 ∙ ap (nthPhrase (s .args .settings)) (text-total (s .args .text .now) _ _ (s .pre .1) (s .pre .2) (c .before .before .before .before .before .before .after-sign .ensures) (c .before .before .before .before .before .groups34 .ensures))
+
+plan-ordinal-requires : tie.Need-plan-ordinal-requires
+plan-ordinal-requires c κs =
+    let s = c .before .before .before .before .before .before .before .before .before in
+    let t = s .args .text .now in
+    let u = c .before .before .before .before .before .after-sign .ensures in
+    let g = c .before .before .before .before .groups34 .ensures in
+    (c .before .before .before .before .before .before .texts .ensures, s .pre .0, text-groups t _ _ (s .pre .1) (s .pre .2) u g, text-orders t _ _ (s .pre .1) (s .pre .2) u g _ (c .before .before .before .count .ensures), search needs)
 
 pub spell-ordinal-spec : {M : Type 1} → statement M
 spell-ordinal-spec =
@@ -30,8 +38,7 @@ spell-ordinal-spec =
     (λ c κs. rw (c .after-sign .ensures) (plain-digits (unsigned (c .before .before .before .before .args .text .now)) (formed-unsigned (c .before .before .before .before .args .text .now) (c .before .before .before .before .pre .1))))
     (λ c κs. search needs)
     (λ c. search needs)
-    (λ c κs. let s = c .before .before .before .before .before .before .before .before .before in
-    (c .before .before .before .before .before .before .texts .ensures, s .pre .0 .2, text-groups _ _ (c .before .before .before .before .groups34 .ensures), text-orders (s .args .text .now) _ _ _ (s .pre .1) (s .pre .2) (c .before .before .before .before .before .after-sign .ensures) (c .before .before .before .before .groups34 .ensures) (c .before .before .before .count .ensures), search needs))
+    plan-ordinal-requires
     (λ c. search needs)
     (λ c. search needs)
     (λ c κs. let p = c .before .before .before .plan-ordinal in (omega (arith, p .ensures .0, p .ensures .2), omega (arith, p .ensures .0)))

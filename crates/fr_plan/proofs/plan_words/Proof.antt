@@ -1,10 +1,9 @@
 -- `fr_plan::plan_words` meets its contract.
 -- Assumes nothing.
+use native.Mathlib.Omega.{arith}
 use Rattle.fr.proofs.Tables.{zéro, moins}
 use Rattle.fr_plan.proofs.Appends.{after, likewise, as-word}
 use Rattle.fr_plan.proofs.Cases.{card-zero, card-minus, card-plain}
-use Rattle.fr_plan.proofs.Said.{zeros-words}
-use native.Mathlib.Omega.{arith}
 use Rattle.fr_plan.proofs.plan_words.Statement.{statement}
 use Rattle.fr_plan.proofs.plan_words.Tie as tie
 
@@ -12,15 +11,15 @@ pub plan-words-spec : {M : Type 1} → statement M
 plan-words-spec =
     tie.close
     (tie.spec
-    (λ c κs. (zéro .known, omega (arith, c .before .before .pre .3)))
-    (λ c. let a = c .before .before .before .args in
-    likewise 171 (as-word (c .join .ensures) (zéro .says)) (omega arith) (card-zero (a .f) (a .zero) (a .negative) (a .gs .now) (c .before .before .if1 .taken)))
-    (λ c κs. (moins .known, omega (arith, c .before .before .before .pre .3)))
-    (λ c κs. let s = c .before .before .before .before .before in (s .pre .0, s .pre .2, omega (arith, s .pre .2, s .pre .3, c .before .join2 .ensures .near, c .before .join2 .ensures .same)))
-    (λ c. let s = c .before .before .before .before .before .before in let a = s .args in
-    likewise 171 (after 171 (as-word (c .before .before .join2 .ensures) (moins .says)) (c .groups .ensures) (omega (arith, s .pre .2))) (omega arith)
-    (card-minus (a .f) (a .zero) (a .negative) (a .gs .now) (c .before .before .before .before .before .if1 .left) _ (zeros-words (a .f) (a .gs .now) 34 _ (s .pre .1) (s .pre .2)) (c .before .before .before .before .if2 .taken)))
-    (λ c κs. let s = c .before .before .before in (s .pre .0, s .pre .2, omega (arith, s .pre .2, s .pre .3)))
-    (λ c. let s = c .before .before .before .before in let a = s .args in
-    likewise 171 (c .groups2 .ensures) (omega (arith, s .pre .2))
-    (card-plain (a .f) (a .zero) (a .negative) (a .gs .now) (c .before .before .before .if1 .left) _ (zeros-words (a .f) (a .gs .now) 34 _ (s .pre .1) (s .pre .2)) (c .before .before .if2 .left))))
+    (λ c κs. (zéro .known, omega (arith, c .before .before .pre .0 .3)))
+    (λ c. let s = c .before .before .before in let a = s .args in
+    likewise 171 (as-word (c .join .ensures) (zéro .says)) (omega arith) (card-zero (a .settings) (a .gs .now) (a .zero) (a .negative) (s .pre .1 .1) (c .before .before .if1 .taken)))
+    (λ c κs. (moins .known, omega (arith, c .before .before .before .pre .0 .3)))
+    (λ c κs. let p = c .before .before .before .before .before .pre .0 in (p .0, p .2, omega (arith, p .2, p .3, c .before .join2 .ensures .near, c .before .join2 .ensures .same)))
+    (λ c. let s = c .before .before .before .before .before .before in let a = s .args in let p = s .pre in
+    likewise 171 (after 171 (as-word (c .before .before .join2 .ensures) (moins .says)) (c .groups .ensures) (omega (arith, p .0 .2))) (omega arith)
+    (card-minus (a .settings) (a .gs .now) (a .zero) (a .negative) (p .1 .1) (c .before .before .before .before .before .if1 .left) (p .1 .0) (a .n) (p .0 .1) (p .0 .2) (c .before .before .before .before .if2 .taken)))
+    (λ c κs. let p = c .before .before .before .pre .0 in (p .0, p .2, omega (arith, p .2, p .3)))
+    (λ c. let s = c .before .before .before .before in let a = s .args in let p = s .pre in
+    likewise 171 (c .groups2 .ensures) (omega (arith, p .0 .2))
+    (card-plain (a .settings) (a .gs .now) (a .zero) (a .negative) (p .1 .1) (c .before .before .before .if1 .left) (p .1 .0) (a .n) (p .0 .1) (p .0 .2) (c .before .before .if2 .left))))

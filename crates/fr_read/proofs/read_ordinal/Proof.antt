@@ -2,14 +2,14 @@
 -- Assumes nothing.
 use borrow.Author.Needs.{needs}
 use native.Mathlib.Omega.{arith}
-use Rattle.fr_read.proofs.Promises.{are-groups, read-nth}
+use Rattle.fr_read.proofs.Decided.{are-groups, read-nth}
 use Rattle.fr_read.proofs.read_ordinal.Statement.{statement}
 use Rattle.fr_read.proofs.read_ordinal.Tie as tie
 
 returns : tie.Need-returns
 returns c =
     let s = c .before .before .before .before .before .before .before .before in
-    let r = read-nth (s .args .f) (s .pre .0) (s .args .s .now) _ (c .before .before .before .before .before .guess .ensures .0) _ (c .is-ordinal .ensures) in
+    let r = read-nth (s .args .settings) (s .pre .0) (s .args .s .now) _ (c .before .before .before .before .before .guess .ensures .0) _ (c .is-ordinal .ensures) in
     (r .0, r .1, c .before .before .top .ensures .0)
 
 pub read-ordinal-spec : {M : Type 1} → statement M
