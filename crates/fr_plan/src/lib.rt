@@ -152,7 +152,7 @@ fn group(settings: Settings, order: usize, g: u16, plan: &mut [u32], at: usize) 
     scale_words(settings, order, n, plan, b)
 }
 
-// The groups below order n, from the highest down: in a loop, since a function that calls itself copies the settings each time.
+// The groups below order n, from the highest down: each call has one order fewer.
 fn groups(
     settings: Settings,
     n: usize,
@@ -163,13 +163,12 @@ fn groups(
     requires { ⌜ Within (frenchRanges settings) × (n ≤ 34) × (at + 5 * n ≤ length (now plan)) ⌝ }
     ensures { λ r. ⌜ Appended (5 * n) (now (plan .entry)) at (now (plan .exit)) r (spacedBy (frenchJoiner settings) (listed (french settings) n (now (gs .entry)))) ⌝ }
 {
-    let mut order = n;
-    let mut next = at;
-    while 0 < order {
-        order -= 1;
-        next = group(settings, order, gs[order], plan, next);
+    if n == 0 {
+        return at;
     }
-    next
+    let order = n - 1;
+    let k = group(settings, order, gs[order], plan, at);
+    groups(settings, order, gs, plan, k)
 }
 
 // The plan of a cardinal: zero's word, or the minus word if negative and the groups, of which those from n on are 0.
