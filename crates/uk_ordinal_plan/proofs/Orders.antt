@@ -2,14 +2,14 @@
 -- Assumes nothing.
 use Prim.Native.Nat.{ℕ, zero, suc, _+_, _-_, _*_, _/_, _%_, _^_, _<_, _≤_}
 use mathlib.Core.Path.{_≡_, refl, sym, ap, _∙_}
-use mathlib.Core.Bool.{Bool, true, false, not, _&&_}
+use mathlib.Core.Bool.{true, false, not, _&&_}
 use mathlib.Core.List.{List, [], _∷_, _++_}
 use native.Mathlib.Nat.{pow-succ', div-div-eq-div-mul}
 use native.Mathlib.Omega.{arith}
 use native.Mathlib.Decide.{ℕ-discrete, decLt}
 use borrow.Author.Tests.{eq-eqb, ne-eqb}
 use lib.Dec.{eqb}
-use lib.ListN.{length, getD, set, length-set, List·getD-eq-default}
+use lib.ListN.{length, getD, set, length-set}
 use lib.Seq.{set-out, getD-set-same, getD-set-other}
 use Rattle.base.specs.Join.{Word}
 use Rattle.base.specs.Utf8.{utf8}
@@ -67,74 +67,77 @@ total-above (g ∷ gs) (suc k) h l z =
     rw (e, z 0 (omega arith), total-above gs k (h .1) (omega arith) (λ i j. z (suc i) (omega arith)), pow-succ' 1000 (suc k))
     (sym (shifted (1000 ^ suc k) (total gs)))
 
--- the groups of the number, those below k being 0
-module _ (S : Settings) (gs : List ℕ) (all : Groups22 gs) (k : ℕ) (at : LowestAt gs k) where
+-- 22 groups, of which the lowest that is not 0 is at the order k
+module _ (gs : List ℕ) (all : Groups22 gs) (k : ℕ) (low : LowestAt gs k) where
   groups : Groups gs
   groups = each gs (all .below)
 
   group-is : (i : ℕ) → i < 22 → groupAt i (total gs) ≡ getD gs i 0
   group-is i h = sym (group-of gs i groups (omega (arith, all .count)))
 
-  -- from an order up to the lowest
-  from-up : (e : Word) (left order : ℕ) → order + left ≡ 22 → order ≤ k → k < 22 → ordinalFrom S e left order (total gs) ≡ ordinalAt S e k (total gs)
-  unfolding ordinalFrom
-  from-up e zero order a b h = absurd (omega arith)
-  from-up e (suc left) order a b h = go (ℕ-discrete order k) (λ l. from-up e left (suc order) (omega arith) l h)
-    where
-      go : Dec (order ≡ k) → (suc order ≤ k → ordinalFrom S e left (suc order) (total gs) ≡ ordinalAt S e k (total gs))
-          → ordinalFrom S e (suc left) order (total gs) ≡ ordinalAt S e k (total gs)
-      go (yes q) up = rw (q, group-is k h, ne-eqb (getD gs k 0) 0 (at .some h)) refl
-      go (no q) up = rw (group-is order (omega arith), at .zeros order (omega arith)) (up (omega arith))
-
-  -- where there is none
-  from-none : (e : Word) (left order : ℕ) → order + left ≡ 22 → k ≡ 22 → ordinalFrom S e left order (total gs) ≡ (utf8 ordinalZeroBase ++ e) ∷ []
-  unfolding ordinalFrom
-  from-none e zero order a h = refl
-  from-none e (suc left) order a h = rw (group-is order (omega arith), at .zeros order (omega arith)) (from-none e left (suc order) (omega arith) h)
-
-  -- the words with an ending that goes by the group at order 0
-  pub ordinal-zero : k ≡ 22 → (utf8 ordinalZeroBase ++ flexion S (soft (getD gs 0 0))) ∷ [] ≡ ordinalWords S (total gs)
-  unfolding ordinalWords
-  ordinal-zero h = rw (soft-first gs) (sym (from-none (flexion S (soft (total gs))) 22 0 (omega arith) h))
-
+  -- the number above it
   above-is : k < 22 → total (set gs k 0) ≡ above k (total gs)
-  above-is h = total-above gs k groups (omega (arith, all .count)) (at .zeros)
+  above-is h = total-above gs k groups (omega (arith, all .count)) (low .zeros)
 
   higher-is : (L : Lexicon) → k < 22 → listed L 22 (set gs k 0) ≡ groupsBelow L 22 (above k (total gs))
   higher-is L h =
       listed-is L (set gs k 0) 22 (set-each gs k groups) (omega (arith, all .count, length-set gs k 0)) ∙ ap (groupsBelow L 22) (above-is h)
 
-  pub ordinal-higher : k < 22
-      → listed (ukrainian (inNominative S)) 22 (set gs k 0) ++ lowestWords S (flexion S (soft (getD gs 0 0))) (above k (total gs)) k (getD gs k 0) ≡ ordinalWords S (total gs)
-  unfolding ordinalWords ordinalAt
-  ordinal-higher h =
-      rw (soft-first gs, higher-is (ukrainian (inNominative S)) h, ← group-is k h)
-      (sym (from-up (flexion S (soft (total gs))) 22 0 (omega arith) (omega arith) h))
-
-  -- the lowest group is alone just where the orders end with it
+  -- it is alone just where the orders end with it
   module _ (n : ℕ) (top : Highest gs n) (h : k < 22) where
     above-none : k + 1 ≡ n → ZeroFrom (set gs k 0) 0
     above-none e i l = go (ℕ-discrete i k) (decLt i k)
       where
         go : Dec (i ≡ k) → Dec (i < k) → getD (set gs k 0) i 0 ≡ 0
         go (yes q) d = rw q (getD-set-same gs k 0 0 (omega (arith, all .count)))
-        go (no q) (yes b) = getD-set-other gs k i 0 0 q ∙ at .zeros i b
+        go (no q) (yes b) = getD-set-other gs k i 0 0 q ∙ low .zeros i b
         go (no q) (no b) = getD-set-other gs k i 0 0 q ∙ top .zeros i (omega arith)
 
     pub lone : k + 1 ≡ n → true ≡ eqb (above k (total gs)) 0
     lone e = sym (eq-eqb (above k (total gs)) 0 (sym (above-is h) ∙ total-none (set gs k 0) (above-none e)))
 
-    pub ordinal-lone : k + 1 ≡ n → lowestWords S (flexion S (soft (getD gs 0 0))) (above k (total gs)) k (getD gs k 0) ≡ ordinalWords S (total gs)
-    unfolding listed
-    ordinal-lone e =
-        ap (λ (ws : List Word). ws ++ lowestWords S (flexion S (soft (getD gs 0 0))) (above k (total gs)) k (getD gs k 0))
-        (listed-high (ukrainian (inNominative S)) (set gs k 0) 0 22 (above-none e) (omega arith)) ∙ ordinal-higher h
-
-    pub many : (k + 1 ≡ n → ⊥) → false ≡ eqb (above k (total gs)) 0
-    many e = sym (ne-eqb (above k (total gs)) 0 (λ z. top .some (omega (arith, inside (decLt k n))) (high z (decLt k n))))
+    pub not-lone : (k + 1 ≡ n → ⊥) → false ≡ eqb (above k (total gs)) 0
+    not-lone e = sym (ne-eqb (above k (total gs)) 0 (λ z. top .some (omega (arith, inside (decLt k n))) (high z (decLt k n))))
       where
         inside : Dec (k < n) → k < n
         inside (yes l) = l
-        inside (no l) = absurd (at .some h (top .zeros k (omega arith)))
+        inside (no l) = absurd (low .some h (top .zeros k (omega arith)))
         high : above k (total gs) ≡ 0 → Dec (k < n) → getD gs (n - 1) 0 ≡ 0
         high z d = sym (getD-set-other gs k (n - 1) 0 0 (λ q. e (omega (arith, inside d)))) ∙ none-total (set gs k 0) (above-is h ∙ z) (n - 1) (omega arith)
+
+  -- the words of the number, with the ending e
+  module _ (S : Settings) (e : Word) (ends : e ≡ flexion S (soft (getD gs 0 0))) where
+    words-are : ordinalFrom S e 22 0 (total gs) ≡ ordinalWords S (total gs)
+    unfolding ordinalWords
+    words-are = ap (λ (w : Word). ordinalFrom S w 22 0 (total gs)) (ends ∙ ap (flexion S) (soft-first gs))
+
+    -- from an order up to the lowest
+    from-up : (left order : ℕ) → order + left ≡ 22 → order ≤ k → k < 22 → ordinalFrom S e left order (total gs) ≡ ordinalAt S e k (total gs)
+    unfolding ordinalFrom
+    from-up zero order a b h = absurd (omega arith)
+    from-up (suc left) order a b h = go (ℕ-discrete order k) (λ l. from-up left (suc order) (omega arith) l h)
+      where
+        go : Dec (order ≡ k) → (suc order ≤ k → ordinalFrom S e left (suc order) (total gs) ≡ ordinalAt S e k (total gs))
+            → ordinalFrom S e (suc left) order (total gs) ≡ ordinalAt S e k (total gs)
+        go (yes q) up = rw (q, group-is k h, ne-eqb (getD gs k 0) 0 (low .some h)) refl
+        go (no q) up = rw (group-is order (omega arith), low .zeros order (omega arith)) (up (omega arith))
+
+    -- where there is none
+    from-none : (left order : ℕ) → order + left ≡ 22 → k ≡ 22 → ordinalFrom S e left order (total gs) ≡ (utf8 ordinalZeroBase ++ e) ∷ []
+    unfolding ordinalFrom
+    from-none zero order a h = refl
+    from-none (suc left) order a h = rw (group-is order (omega arith), low .zeros order (omega arith)) (from-none left (suc order) (omega arith) h)
+
+    pub ordinal-zero : k ≡ 22 → (utf8 ordinalZeroBase ++ e) ∷ [] ≡ ordinalWords S (total gs)
+    ordinal-zero h = sym (from-none 22 0 (omega arith) h) ∙ words-are
+
+    pub ordinal-higher : k < 22
+        → listed (ukrainian (inNominative S)) 22 (set gs k 0) ++ lowestWords S e (above k (total gs)) k (getD gs k 0) ≡ ordinalWords S (total gs)
+    unfolding ordinalAt
+    ordinal-higher h = rw (higher-is (ukrainian (inNominative S)) h, ← group-is k h) (sym (from-up 22 0 (omega arith) (omega arith) h)) ∙ words-are
+
+    pub ordinal-lone : (n : ℕ) → Highest gs n → k < 22 → k + 1 ≡ n → lowestWords S e (above k (total gs)) k (getD gs k 0) ≡ ordinalWords S (total gs)
+    unfolding listed
+    ordinal-lone n top h q =
+        ap (λ (ws : List Word). ws ++ lowestWords S e (above k (total gs)) k (getD gs k 0))
+        (listed-high (ukrainian (inNominative S)) (set gs k 0) 0 22 (above-none n top h q) (omega arith)) ∙ ordinal-higher h
