@@ -4,7 +4,7 @@ use Prim.Native.Nat.{_^_, _<_}
 use mathlib.Core.Path.{_≡_, sym, ap, _∙_, subst}
 use native.Mathlib.Omega.{arith}
 use borrow.Author.Needs.{needs}
-use native.Mathlib.Nat.{lt-of-lt-of-le, le-of-lt}
+use native.Mathlib.Nat.{lt-trans}
 use lib.Dec.{lit<}
 use lib.IntN.{natAbs}
 use mir.Facts.{toZ-ofZ}
@@ -25,7 +25,9 @@ module _ (c : tie.After-gs2) where
   groups-are = c .before .groups-from .ensures .0 ∙ ap (groupsOf 22) magnitude-is
 
   held : natAbs (c .before .before .before .before .before .args .year) < 1000 ^ 22
-  held = let h : natAbs (c .before .before .before .before .before .args .year) < 18446744073709551616 = rw (← magnitude-is) (omega arith) in lt-of-lt-of-le h (le-of-lt (lit< tt))
+  held =
+      let h : natAbs (c .before .before .before .before .before .args .year) < 2 ^ 64 = rw (← magnitude-is) (omega arith) in
+      lt-trans h (lit< tt)
 
 returns : tie.Need-returns
 returns c =
