@@ -1,8 +1,7 @@
--- The code's tables of places hold the texts of uk.rs's: one computed test for each; and the endings as the code picks them.
+-- The code's tables of places hold the texts of uk.rs's: one computed test for each.
 -- Assumes nothing.
-use Prim.Native.Nat.{ℕ, zero, suc}
+use Prim.Native.Nat.{ℕ}
 use mathlib.Core.Path.{_≡_, refl}
-use mathlib.Core.Bool.{Bool, true, false}
 use mathlib.Core.List.{[]}
 use lib.ListN.{getD}
 use Rattle.base.specs.Utf8.{utf8, form1, form2}
@@ -11,8 +10,6 @@ use Rattle.words.proofs.Tables.{at1, at2}
 use Rattle.uk.specs.Pool.{ukPool}
 use Rattle.uk_ordinal.specs.Pool.{shortPool}
 use Rattle.uk_ordinal.specs.OrdinalTables as words
-use Rattle.uk_ordinal.specs.Ordinal.{flexion}
-use Rattle.uk_ordinal.specs.DigitOrdinal.{shortFlexion}
 use Rattle.uk_ordinal.proofs.Listed as places
 
 pub zero-at : part ukPool places.ordinalZeroBase ≡ utf8 words.ordinalZeroBase
@@ -78,38 +75,3 @@ short-plural-at = at1 shortPool places.ordinalFlexionsPluralShort words.ordinalF
 pub year-at : (i j : ℕ) → part ukPool (getD (getD places.year i []) j 0) ≡ form2 words.year i j
 unfolding part ukPool words.year
 year-at = at2 ukPool places.year words.year refl
-
--- an ending by gender in the singular, and by case alone in the plural
-module _ (g c : ℕ) where
-  pub hard-one : (n : ℕ) → n ≡ 0 → form2 words.adjectiveHardFlexionsSingular g c ≡ flexion false g n c
-  unfolding flexion
-  hard-one n e = rw e refl
-
-  pub hard-more : (n : ℕ) → (n ≡ 0 → ⊥) → form1 words.adjectiveHardFlexionsPlural c ≡ flexion false g n c
-  unfolding flexion
-  hard-more zero h = absurd (h refl)
-  hard-more (suc n) h = refl
-
-  pub soft-one : (n : ℕ) → n ≡ 0 → form2 words.adjectiveSoftFlexionsSingular g c ≡ flexion true g n c
-  unfolding flexion
-  soft-one n e = rw e refl
-
-  pub soft-more : (n : ℕ) → (n ≡ 0 → ⊥) → form1 words.adjectiveSoftFlexionsPlural c ≡ flexion true g n c
-  unfolding flexion
-  soft-more zero h = absurd (h refl)
-  soft-more (suc n) h = refl
-
-  pub short-soft : (s : Bool) (n : ℕ) → s ≡ true → n ≡ 0 → form2 words.ordinalSoftFlexionsSingularShort g c ≡ shortFlexion s g n c
-  unfolding shortFlexion
-  short-soft s n d e = rw (d, e) refl
-
-  pub short-hard : (s : Bool) (n : ℕ) → s ≡ false → n ≡ 0 → form2 words.ordinalHardFlexionsSingularShort g c ≡ shortFlexion s g n c
-  unfolding shortFlexion
-  short-hard s n d e = rw (d, e) refl
-
-  pub short-more : (s : Bool) (n : ℕ) → (n ≡ 0 → ⊥) → form1 words.ordinalFlexionsPluralShort c ≡ shortFlexion s g n c
-  unfolding shortFlexion
-  short-more true zero h = absurd (h refl)
-  short-more false zero h = absurd (h refl)
-  short-more true (suc n) h = refl
-  short-more false (suc n) h = refl

@@ -9,6 +9,7 @@ use native.Mathlib.Omega.{arith}
 use lib.ListN.{length, take, drop, set, length-append}
 use lib.Seq.{drop-cons, set-append-seam, take-length}
 use Rattle.base.specs.Buffer.{over}
+use Rattle.settings.specs.declared.Settings.{Settings}
 use Rattle.figures.specs.Text.{value}
 use Rattle.uk_ordinal.specs.Ordinal.{soft}
 use Rattle.uk_ordinal.specs.DigitOrdinal.{shortFlexion, digitOrdinal}
@@ -34,7 +35,6 @@ hyphened xs t w ys zs n l e h f =
     wrote (n + 1) xs (t ++ (45 ∷ [])) w (set ys n 45) zs (rw (length-append t (45 ∷ [])) (omega arith)) s f ∙ ap (over xs) (append-assoc t (45 ∷ []) w)
 
 -- they are the digit ordinal, where the ending is that of what the digits mean
-pub is-ordinal : (gender number case : ℕ) (text w : List ℕ) (s : Bool) → s ≡ soft (value text) → w ≡ shortFlexion s gender number case
-    → text ++ (45 ∷ w) ≡ digitOrdinal gender number case text
+pub is-ordinal : (S : Settings) (text w : List ℕ) (s : Bool) → s ≡ soft (value text) → w ≡ shortFlexion S s → text ++ (45 ∷ w) ≡ digitOrdinal S text
 unfolding digitOrdinal
-is-ordinal gender number case text w s e f = rw (f, e) refl
+is-ordinal S text w s e f = rw (f, e) refl

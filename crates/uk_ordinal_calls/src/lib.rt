@@ -11,7 +11,7 @@ use uk_ordinal_plan::PLAN;
 use uk_ordinal_plan::YEAR_PLAN;
 ghost use mathlib.Core.Path.{_≡_};
 ghost use mathlib.Core.Bool.{true};
-ghost use Prim.Native.Nat.{_≤_, _<_};
+ghost use Prim.Native.Nat.{_≤_};
 ghost use lib.ListN.{length};
 ghost use Rattle.base.specs.Answer.{fitted, replied, Answers};
 ghost use Rattle.figures.specs.Text.{plain};

@@ -1,75 +1,42 @@
--- The orders of groups: the lowest that is not zero, and groups that are zero.
+-- An ordinal of the number that an array of groups stands for: its lowest group that is not 0, and the number above it.
 -- Assumes nothing.
-use Prim.Native.Nat.{ℕ, zero, suc, _+_, _-_, _<_, _≤_}
+use Prim.Native.Nat.{ℕ, zero, suc, _+_, _-_, _*_, _/_, _%_, _^_, _<_, _≤_}
 use mathlib.Core.Path.{_≡_, refl, sym, ap, _∙_}
-use mathlib.Core.Bool.{Bool, true, false, _&&_}
+use mathlib.Core.Bool.{true, false, not, _&&_}
 use mathlib.Core.List.{List, [], _∷_, _++_}
+use native.Mathlib.Nat.{pow-succ', div-div-eq-div-mul}
 use native.Mathlib.Omega.{arith}
-use native.Mathlib.Numerals.{add-one}
-use borrow.Author.Tests.{eq-eqb, ne-eqb, eqb-true}
-use lib.Dec.{eqb}
 use native.Mathlib.Decide.{ℕ-discrete, decLt}
-use lib.ListN.{length, getD, drop, set, drop-of-length-le, List·getD-eq-default}
-use lib.Seq.{drop-cons, set-out, getD-set-same, getD-set-other, getD-drop}
+use borrow.Author.Tests.{eq-eqb, ne-eqb}
+use lib.Dec.{eqb}
+use lib.ListN.{length, getD, set, length-set}
+use lib.Seq.{set-out, getD-set-same, getD-set-other}
 use Rattle.base.specs.Join.{Word}
 use Rattle.base.specs.Utf8.{utf8}
+use Rattle.settings.specs.declared.Settings.{Settings}
+use Rattle.figures.specs.Groups.{total, Groups}
+use Rattle.figures.proofs.Laws.Groups.{group-of}
 use Rattle.groups.specs.Highest.{ZeroFrom, Highest}
-use Rattle.tables.proofs.Tests.{and-left, and-right}
-use Rattle.uk.specs.Rules.{Words}
+use Rattle.groups.proofs.Highest.{total-none, none-total}
+use Rattle.cardinals.specs.Cardinal.{Lexicon, groupAt, groupsBelow}
+use Rattle.cardinals.specs.Listed.{listed}
+use Rattle.cardinals.proofs.Arrays.{listed-is, listed-high}
 use Rattle.uk.specs.Ukrainian.{ukrainian}
-use Rattle.uk.specs.Cardinal.{groupOf, groupsBelow}
 use Rattle.uk_ordinal.specs.OrdinalTables.{ordinalZeroBase}
-use Rattle.uk_ordinal.specs.Ordinal.{soft, flexion, lowestWords, lowest, allZero, ordinalWords}
+use Rattle.uk_ordinal.specs.Ordinal.{soft, flexion, inNominative, lowestWords, above, ordinalAt, ordinalFrom, ordinalWords}
+use Rattle.uk_ordinal_plan.specs.Groups.{Groups22, LowestAt}
 
--- the lowest from an order on
-pub lowest-here : (gs : List ℕ) (i : ℕ) → i < length gs → (getD gs i 0 ≡ 0 → ⊥) → lowest (drop i gs) ≡ 0
-unfolding lowest
-lowest-here gs i h n = rw (drop-cons gs i 0 h) (go (getD gs i 0) n)
-  where
-    go : (g : ℕ) → (g ≡ 0 → ⊥) → lowest (g ∷ drop (suc i) gs) ≡ 0
-    go zero n = absurd (n refl)
-    go (suc g) n = refl
+-- groups of at most three digits, one by one and all
+each : (gs : List ℕ) → ((i : ℕ) → getD gs i 0 < 1000) → Groups gs
+each [] h = tt
+each (g ∷ gs) h = (h 0, each gs (λ i. h (suc i)))
 
-pub lowest-next : (gs : List ℕ) (i : ℕ) → i < length gs → getD gs i 0 ≡ 0 → lowest (drop i gs) ≡ suc (lowest (drop (i + 1) gs))
-unfolding lowest
-lowest-next gs i h e = rw (drop-cons gs i 0 h, e, add-one i) refl
+set-each : (gs : List ℕ) (k : ℕ) → Groups gs → Groups (set gs k 0)
+set-each [] k h = tt
+set-each (g ∷ gs) zero h = (omega arith, h .1)
+set-each (g ∷ gs) (suc k) h = (h .0, set-each gs k (h .1))
 
-pub lowest-none : (gs : List ℕ) (i : ℕ) → length gs ≤ i → lowest (drop i gs) ≡ 0
-unfolding lowest
-lowest-none gs i h = rw (drop-of-length-le gs {i = i} h) refl
-
--- all groups are zero, and not all
-all-zeros : (gs : List ℕ) → ((i : ℕ) → getD gs i 0 ≡ 0) → allZero gs ≡ true
-unfolding allZero
-all-zeros [] z = refl
-all-zeros (g ∷ gs) z = rw (eq-eqb g 0 (z 0)) (all-zeros gs (λ i. z (suc i)))
-
-some-not : (gs : List ℕ) (i : ℕ) → (getD gs i 0 ≡ 0 → ⊥) → allZero gs ≡ false
-unfolding allZero
-some-not [] i n = absurd (n refl)
-some-not (g ∷ gs) zero n = rw (ne-eqb g 0 n) refl
-some-not (g ∷ gs) (suc i) n = go (eqb g 0) (some-not gs i n)
-  where
-    go : (b : Bool) → allZero gs ≡ false → (b && allZero gs) ≡ false
-    go true e = e
-    go false e = refl
-
--- a group that is not zero is the only one above those below it just where the orders end with it
-pub lone-is : (gs : List ℕ) (n k : ℕ) → Highest gs n → (getD gs k 0 ≡ 0 → ⊥) → eqb (k + 1) n ≡ allZero (drop (suc k) gs)
-lone-is gs n k t s = go (ℕ-discrete (k + 1) n)
-  where
-    go : Dec (k + 1 ≡ n) → eqb (k + 1) n ≡ allZero (drop (suc k) gs)
-    go (yes e) = eq-eqb (k + 1) n e ∙ sym (all-zeros (drop (suc k) gs) (λ i. rw (getD-drop (suc k) gs i 0) (t .zeros (suc k + i) (omega arith))))
-    go (no e) =
-        let l : k < n = within (decLt k n) in
-        let q : suc k + (n - 1 - suc k) ≡ n - 1 = omega (arith, e) in
-        ne-eqb (k + 1) n e ∙ sym (some-not (drop (suc k) gs) (n - 1 - suc k) (λ z. t .some (omega (arith, e)) (ap (λ (i : ℕ). getD gs i 0) (sym q) ∙ sym (getD-drop (suc k) gs (n - 1 - suc k) 0) ∙ z)))
-      where
-        within : Dec (k < n) → k < n
-        within (yes h) = h
-        within (no h) = absurd (s (t .zeros k (omega arith)))
-
--- groups above which all are zero stay so where one becomes zero
+-- groups above which all are 0 stay so where one becomes 0
 pub zeros-set : (gs : List ℕ) (n k : ℕ) → ZeroFrom gs n → ZeroFrom (set gs k 0) n
 zeros-set gs n k z i h = go (ℕ-discrete i k) (decLt k (length gs))
   where
@@ -78,65 +45,99 @@ zeros-set gs n k z i h = go (ℕ-discrete i k) (decLt k (length gs))
     go d (no l) = rw (set-out gs k 0 (omega arith)) (z i h)
     go (no e) (yes l) = getD-set-other gs k i 0 0 e ∙ z i h
 
--- the group at the lowest order, those below it, and those above it where they are zeros
-pub lowest-some : (gs : List ℕ) → lowest gs < length gs → 0 < getD gs (lowest gs) 0
-unfolding lowest
-lowest-some [] h = absurd (omega arith)
-lowest-some (zero ∷ gs) h = lowest-some gs (omega arith)
-lowest-some (suc g ∷ gs) h = omega arith
+-- a number's last two digits stand in its group at order 0
+pub soft-first : (gs : List ℕ) → soft (getD gs 0 0) ≡ soft (total gs)
+soft-first [] = refl
+soft-first (g ∷ gs) =
+    let a : g % 10 ≡ (g + 1000 * total gs) % 10 = omega arith in
+    let b : g % 100 ≡ (g + 1000 * total gs) % 100 = omega arith in
+    ap (λ (x : ℕ). eqb x 3 && not (eqb (g % 100) 13)) a ∙ ap (λ (x : ℕ). eqb ((g + 1000 * total gs) % 10) 3 && not (eqb x 13)) b
 
-lowest-below : (gs : List ℕ) (i : ℕ) → i < lowest gs → getD gs i 0 ≡ 0
-unfolding lowest
-lowest-below [] i h = absurd (omega arith)
-lowest-below (zero ∷ gs) zero h = refl
-lowest-below (zero ∷ gs) (suc i) h = lowest-below gs i (omega arith)
-lowest-below (suc g ∷ gs) i h = absurd (omega arith)
+-- a number whose groups below an order are 0, without the group there: the number above it
+shifted : (p t : ℕ) → 1000 * t / (1000 * p) * (1000 * p) ≡ 0 + 1000 * (t / p * p)
+shifted p t =
+    let a : 1000 * t / (1000 * p) ≡ t / p = sym (div-div-eq-div-mul (1000 * t) 1000 p) ∙ ap (λ (x : ℕ). x / p) (let e : 1000 * t / 1000 ≡ t = omega arith in e) in
+    rw a (omega arith)
 
-zeros-at : (gs : List ℕ) (i : ℕ) → allZero gs ≡ true → getD gs i 0 ≡ 0
-unfolding allZero
-zeros-at [] i e = refl
-zeros-at (g ∷ gs) zero e = eqb-true g 0 (and-left (eqb g 0) (allZero gs) e)
-zeros-at (g ∷ gs) (suc i) e = zeros-at gs i (and-right (eqb g 0) (allZero gs) e)
+total-above : (gs : List ℕ) (k : ℕ) → Groups gs → k < length gs → ((i : ℕ) → i < k → getD gs i 0 ≡ 0) → total (set gs k 0) ≡ above k (total gs)
+total-above [] k h l z = absurd (omega arith)
+total-above (g ∷ gs) zero h l z = let s : g < 1000 = h .0 in omega arith
+total-above (g ∷ gs) (suc k) h l z =
+    let e : g + 1000 * total gs ≡ 1000 * total gs = omega (arith, z 0 (omega arith)) in
+    rw (e, z 0 (omega arith), total-above gs k (h .1) (omega arith) (λ i j. z (suc i) (omega arith)), pow-succ' 1000 (suc k))
+    (sym (shifted (1000 ^ suc k) (total gs)))
 
-zeros-above : (gs : List ℕ) (k i : ℕ) → allZero (drop (suc k) gs) ≡ true → k < i → getD gs i 0 ≡ 0
-zeros-above gs k i e h =
-    let j : suc k + (i - suc k) ≡ i = omega arith in
-    ap (λ (n : ℕ). getD gs n 0) (sym j) ∙ sym (getD-drop (suc k) gs (i - suc k) 0) ∙ zeros-at (drop (suc k) gs) (i - suc k) e
+-- 22 groups, of which the lowest that is not 0 is at the order k
+module _ (gs : List ℕ) (all : Groups22 gs) (k : ℕ) (low : LowestAt gs k) where
+  groups : Groups gs
+  groups = each gs (all .below)
 
--- groups that are all zero say nothing
-groups-none : (W : Words) (n : ℕ) (gs : List ℕ) → ((i : ℕ) → getD gs i 0 ≡ 0) → groupsBelow W n gs ≡ []
-unfolding groupsBelow groupOf
-groups-none W zero gs h = refl
-groups-none W (suc n) gs h = rw (h n) (groups-none W n gs h)
+  group-is : (i : ℕ) → i < 22 → groupAt i (total gs) ≡ getD gs i 0
+  group-is i h = sym (group-of gs i groups (omega (arith, all .count)))
 
-all-none : (gs : List ℕ) → length gs ≤ lowest gs → (i : ℕ) → getD gs i 0 ≡ 0
-all-none gs h i = go (decLt i (lowest gs))
-  where
-    go : Dec (i < lowest gs) → getD gs i 0 ≡ 0
-    go (yes l) = lowest-below gs i l
-    go (no l) = List·getD-eq-default gs 0 (omega arith)
+  -- the number above it
+  above-is : k < 22 → total (set gs k 0) ≡ above k (total gs)
+  above-is h = total-above gs k groups (omega (arith, all .count)) (low .zeros)
 
-lone-none : (gs : List ℕ) → lowest gs < length gs → allZero (drop (suc (lowest gs)) gs) ≡ true → (i : ℕ) → getD (set gs (lowest gs) 0) i 0 ≡ 0
-lone-none gs h e i = go (ℕ-discrete i (lowest gs)) (decLt i (lowest gs))
-  where
-    go : Dec (i ≡ lowest gs) → Dec (i < lowest gs) → getD (set gs (lowest gs) 0) i 0 ≡ 0
-    go (yes q) d = rw q (getD-set-same gs (lowest gs) 0 0 h)
-    go (no q) (yes l) = getD-set-other gs (lowest gs) i 0 0 q ∙ lowest-below gs i l
-    go (no q) (no l) = getD-set-other gs (lowest gs) i 0 0 q ∙ zeros-above gs (lowest gs) i e (omega arith)
+  higher-is : (L : Lexicon) → k < 22 → listed L 22 (set gs k 0) ≡ groupsBelow L 22 (above k (total gs))
+  higher-is L h =
+      listed-is L (set gs k 0) 22 (set-each gs k groups) (omega (arith, all .count, length-set gs k 0)) ∙ ap (groupsBelow L 22) (above-is h)
 
--- the cases of an ordinal's words
-module _ (gender number case : ℕ) (gs : List ℕ) (count : length gs ≡ 22) (e : Word) (ends : e ≡ flexion (soft (getD gs 0 0)) gender number case) (k : ℕ) (here : k ≡ lowest gs) where
-  pub ordinal-zero : k ≡ 22 → (utf8 ordinalZeroBase ++ e) ∷ [] ≡ ordinalWords gender number case gs
-  unfolding ordinalWords lowestWords
-  ordinal-zero z =
-      rw (set-out gs (lowest gs) 0 (omega arith), groups-none (ukrainian 0 0) 22 gs (all-none gs (omega arith)), all-none gs (omega arith) (lowest gs), ← ends) refl
+  -- it is alone just where the orders end with it
+  module _ (n : ℕ) (top : Highest gs n) (h : k < 22) where
+    above-none : k + 1 ≡ n → ZeroFrom (set gs k 0) 0
+    above-none e i l = go (ℕ-discrete i k) (decLt i k)
+      where
+        go : Dec (i ≡ k) → Dec (i < k) → getD (set gs k 0) i 0 ≡ 0
+        go (yes q) d = rw q (getD-set-same gs k 0 0 (omega (arith, all .count)))
+        go (no q) (yes b) = getD-set-other gs k i 0 0 q ∙ low .zeros i b
+        go (no q) (no b) = getD-set-other gs k i 0 0 q ∙ top .zeros i (omega arith)
 
-  pub ordinal-lone : k < 22 → allZero (drop (suc k) gs) ≡ true → lowestWords e true k (getD gs k 0) ≡ ordinalWords gender number case gs
-  unfolding ordinalWords
-  ordinal-lone h z =
-      let f : allZero (drop (suc (lowest gs)) gs) ≡ true = rw here at z in
-      rw (groups-none (ukrainian 0 0) 22 (set gs (lowest gs) 0) (lone-none gs (omega arith) f), f, here, ends) refl
+    pub lone : k + 1 ≡ n → true ≡ eqb (above k (total gs)) 0
+    lone e = sym (eq-eqb (above k (total gs)) 0 (sym (above-is h) ∙ total-none (set gs k 0) (above-none e)))
 
-  pub ordinal-higher : allZero (drop (suc k) gs) ≡ false → groupsBelow (ukrainian 0 0) 22 (set gs k 0) ++ lowestWords e false k (getD gs k 0) ≡ ordinalWords gender number case gs
-  unfolding ordinalWords
-  ordinal-higher z = let f : allZero (drop (suc (lowest gs)) gs) ≡ false = rw here at z in rw (f, here, ends) refl
+    pub not-lone : (k + 1 ≡ n → ⊥) → false ≡ eqb (above k (total gs)) 0
+    not-lone e = sym (ne-eqb (above k (total gs)) 0 (λ z. top .some (omega (arith, inside (decLt k n))) (high z (decLt k n))))
+      where
+        inside : Dec (k < n) → k < n
+        inside (yes l) = l
+        inside (no l) = absurd (low .some h (top .zeros k (omega arith)))
+        high : above k (total gs) ≡ 0 → Dec (k < n) → getD gs (n - 1) 0 ≡ 0
+        high z d = sym (getD-set-other gs k (n - 1) 0 0 (λ q. e (omega (arith, inside d)))) ∙ none-total (set gs k 0) (above-is h ∙ z) (n - 1) (omega arith)
+
+  -- the words of the number, with the ending e
+  module _ (S : Settings) (e : Word) (ends : e ≡ flexion S (soft (getD gs 0 0))) where
+    words-are : ordinalFrom S e 22 0 (total gs) ≡ ordinalWords S (total gs)
+    unfolding ordinalWords
+    words-are = ap (λ (w : Word). ordinalFrom S w 22 0 (total gs)) (ends ∙ ap (flexion S) (soft-first gs))
+
+    -- from an order up to the lowest
+    from-up : (left order : ℕ) → order + left ≡ 22 → order ≤ k → k < 22 → ordinalFrom S e left order (total gs) ≡ ordinalAt S e k (total gs)
+    unfolding ordinalFrom
+    from-up zero order a b h = absurd (omega arith)
+    from-up (suc left) order a b h = go (ℕ-discrete order k) (λ l. from-up left (suc order) (omega arith) l h)
+      where
+        go : Dec (order ≡ k) → (suc order ≤ k → ordinalFrom S e left (suc order) (total gs) ≡ ordinalAt S e k (total gs))
+            → ordinalFrom S e (suc left) order (total gs) ≡ ordinalAt S e k (total gs)
+        go (yes q) up = rw (q, group-is k h, ne-eqb (getD gs k 0) 0 (low .some h)) refl
+        go (no q) up = rw (group-is order (omega arith), low .zeros order (omega arith)) (up (omega arith))
+
+    -- where there is none
+    from-none : (left order : ℕ) → order + left ≡ 22 → k ≡ 22 → ordinalFrom S e left order (total gs) ≡ (utf8 ordinalZeroBase ++ e) ∷ []
+    unfolding ordinalFrom
+    from-none zero order a h = refl
+    from-none (suc left) order a h = rw (group-is order (omega arith), low .zeros order (omega arith)) (from-none left (suc order) (omega arith) h)
+
+    pub ordinal-zero : k ≡ 22 → (utf8 ordinalZeroBase ++ e) ∷ [] ≡ ordinalWords S (total gs)
+    ordinal-zero h = sym (from-none 22 0 (omega arith) h) ∙ words-are
+
+    pub ordinal-higher : k < 22
+        → listed (ukrainian (inNominative S)) 22 (set gs k 0) ++ lowestWords S e (above k (total gs)) k (getD gs k 0) ≡ ordinalWords S (total gs)
+    unfolding ordinalAt
+    ordinal-higher h = rw (higher-is (ukrainian (inNominative S)) h, ← group-is k h) (sym (from-up 22 0 (omega arith) (omega arith) h)) ∙ words-are
+
+    pub ordinal-lone : (n : ℕ) → Highest gs n → k < 22 → k + 1 ≡ n → lowestWords S e (above k (total gs)) k (getD gs k 0) ≡ ordinalWords S (total gs)
+    unfolding listed
+    ordinal-lone n top h q =
+        ap (λ (ws : List Word). ws ++ lowestWords S e (above k (total gs)) k (getD gs k 0))
+        (listed-high (ukrainian (inNominative S)) (set gs k 0) 0 22 (above-none n top h q) (omega arith)) ∙ ordinal-higher h

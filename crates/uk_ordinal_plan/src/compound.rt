@@ -15,7 +15,7 @@ ghost use Rattle.words.specs.Part.{part};
 ghost use Rattle.uk.specs.Pool.{ukPool};
 ghost use Rattle.uk.specs.UkTables.{megaBases};
 ghost use Rattle.uk.specs.Rules.{opt, lowWords, numWords};
-ghost use Rattle.uk_ordinal.specs.Ordinal.{inGenitive, compoundDigits, compoundWord};
+ghost use Rattle.uk_ordinal.specs.Ordinal.{compoundDigits, compoundWord};
 ghost use Rattle.uk_ordinal_plan.specs.Said.{Ran, Spoken};
 
 // A compound's unit, if any; what is said begins with the separator.

@@ -11,7 +11,7 @@ ghost use mathlib.Core.Path.{_≡_};
 ghost use mathlib.Core.List.{_∷_, _++_};
 ghost use Prim.Native.Nat.{ℕ, _+_, _≤_, _<_};
 ghost use lib.Dec.{eqb};
-ghost use lib.ListN.{length, getD, set};
+ghost use lib.ListN.{length, set};
 ghost use Rattle.base.specs.Join.{joined};
 ghost use Rattle.settings.specs.Settings.{masculine, ukrainianRanges, Within, inGender};
 ghost use Rattle.figures.specs.Groups.{total};

@@ -22,13 +22,14 @@ plan-ordinal-requires c κs =
 
 returns : tie.Need-returns
 returns c =
-    let a = c .before .before .before .before .before .before .before .before .before .before .before .before .before .args in
+    let s = c .before .before .before .before .before .before .before .before .before .before .before .before .before in
+    let t = now (s .args .text) in
     let p = c .before .before .before .before .before .before .plan-ordinal in
     let g = c .before .before .before .before .before .before .before .before .before .before .groups22 in
-    (heard _ _ _ (p .ensures .1 ∙ ordinal-said (a .settings .gender) (a .settings .number) (a .settings .case) (g .result) (now (a .text)) (g .ensures)) (c .before .before .speak .ensures .0), omega (arith, c .before .before .speak .ensures .1, p .ensures .0))
+    (heard _ _ _ (p .ensures .1 ∙ ordinal-said (s .args .settings) (g .result) t (plain-digits t (s .pre .1)) (s .pre .2) (g .ensures)) (c .before .before .speak .ensures .0), omega (arith, c .before .before .speak .ensures .1, p .ensures .0))
 
 pub say-ordinal-spec : {M : Type 1} → statement M
 say-ordinal-spec =
     tie.close
     (tie.spec (λ c κs. plain-digits (now (c .before .before .args .text)) (c .before .before .pre .1)) (λ c κs. search needs) (λ c. search needs) plan-ordinal-requires
-    (λ c. search needs) (λ c κs. let p = c .before .before .before .plan-ordinal in (omega (arith, p .ensures .0, p .kept .1 .1 .1 .0), omega (arith, p .ensures .0))) (λ c. search needs) returns)
+    (λ c. search needs) (λ c κs. search needs) (λ c. search needs) returns)

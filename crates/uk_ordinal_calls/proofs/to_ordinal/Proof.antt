@@ -1,27 +1,37 @@
 -- `uk_ordinal_calls::to_ordinal` meets its contract.
 -- Assumes nothing.
-use mathlib.Core.Path.{sym, _∙_}
+use mathlib.Core.Path.{_≡_, sym, _∙_}
+use mathlib.Core.Bool.{true}
 use native.Mathlib.Omega.{arith}
 use borrow.Author.Needs.{needs}
 use denote.Ref.{now}
-use Rattle.uk_ordinal_calls.specs.Calls.{refusedOrdinal}
 use Rattle.base.proofs.Replies.{said, refused-as}
+use Rattle.settings.specs.Settings.{ukrainianSettings, ukrainianRanges, within}
+use Rattle.settings.proofs.Ranges.{within-holds}
+use Rattle.figures.specs.Refusals.{ordinalRefusals, Admitted}
+use Rattle.uk_ordinal_calls.specs.UkOrdinals.{ukToOrdinal}
 use Rattle.uk_ordinal_calls.proofs.Admitted.{unrefused, ordinal-digits}
 use Rattle.uk_ordinal_calls.proofs.to_ordinal.Statement.{statement}
 use Rattle.uk_ordinal_calls.proofs.to_ordinal.Tie as tie
 
+-- what no refusal tells
+admitted : (c : tie.Then1) → let a = c .before .before .before .before .args in
+    (within (ukrainianRanges (ukrainianSettings (a .gender) (a .number) (a .case))) ≡ true) × Admitted (ordinalRefusals 66 (now (a .text)))
+admitted c =
+    let a = c .before .before .before .before .args in
+    unrefused (ukrainianRanges (ukrainianSettings (a .gender) (a .number) (a .case))) (ordinalRefusals 66 (now (a .text))) (sym (c .before .refuse-ordinal .ensures) ∙ c .if1 .taken)
+
 say-ordinal-requires : tie.Need-say-ordinal-requires
 say-ordinal-requires c κs =
     let a = c .before .before .before .before .before .before .args in
-    let z = unrefused (a .gender) (a .number) (a .case) (refusedOrdinal (now (a .text))) (sym (c .before .before .before .refuse-ordinal .ensures) ∙ c .before .before .if1 .taken) in
-    let q = c .before .settings-of .ensures in
+    let z = admitted (c .before .before) in
     let d = ordinal-digits (now (a .text)) (z .1) in
-    ((omega (arith, q .0, z .0 .0), omega (arith, q .1, z .0 .1), omega (arith, q .2, z .0 .2)), d .0, d .1)
+    (rw (c .before .ukrainian .ensures) (within-holds (ukrainianRanges (ukrainianSettings (a .gender) (a .number) (a .case))) (z .0)), d .0, d .1)
 
 returns : tie.Need-returns
 returns c =
-    let q = c .before .before .before .before .settings-of .ensures in
-    (said _ _ _ _ _ (sym (c .before .before .before .before .before .before .refuse-ordinal .ensures) ∙ c .before .before .before .before .before .if1 .taken) (rw (q .0, q .1, q .2) at (c .before .before .say-ordinal .ensures .0)), c .before .before .say-ordinal .ensures .1)
+    let a = c .before .before .before .before .before .before .before .before .before .args in
+    (said _ _ _ (ukToOrdinal (ukrainianSettings (a .gender) (a .number) (a .case)) (now (a .text)) .phrase) _ (sym (c .before .before .before .before .before .before .refuse-ordinal .ensures) ∙ c .before .before .before .before .before .if1 .taken) (rw (c .before .before .before .before .ukrainian .ensures) at (c .before .before .say-ordinal .ensures .0)), c .before .before .say-ordinal .ensures .1)
 
 returns-2 : tie.Need-returns-2
 returns-2 c = (refused-as _ _ _ _ _ (c .refused .ensures) (c .before .before .refuse-ordinal .ensures) (c .before .if1 .left), omega (arith, c .refused .ensures .1))
@@ -29,4 +39,4 @@ returns-2 c = (refused-as _ _ _ _ _ (c .refused .ensures) (c .before .before .re
 pub to-ordinal-spec : {M : Type 1} → statement M
 to-ordinal-spec =
     tie.close
-    (tie.spec (λ c κs. search needs) (λ c κs. search needs) say-ordinal-requires (λ c κs. search needs) (λ c. search needs) returns returns-2)
+    (tie.spec (λ c κs. search needs) (λ c κs. admitted c .0) say-ordinal-requires (λ c κs. search needs) (λ c. search needs) returns returns-2)

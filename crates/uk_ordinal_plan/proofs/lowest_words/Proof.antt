@@ -15,7 +15,7 @@ lowest-words-spec =
     (tie.spec
     (λ c κs. search needs)
     (λ c. search needs)
-    (λ c. let s = c .before .before .before .before .before .before in respeak 6 (told (c .before .before .plain-words .ensures)) (omega arith) (lowest-plain (part ukPool (s .args .ending)) (s .args .lone) (s .args .order) (s .args .g) (s .pre .1) (c .before .before .before .before .if1 .taken)))
+    (λ c rest alone. let a = c .before .before .before .before .before .before .args in respeak 6 (told (c .before .before .plain-words .ensures)) (omega arith) (lowest-plain (a .settings) (part ukPool (a .ending)) rest (a .order) (a .g) (c .before .before .before .before .if1 .taken)))
     (λ c κs. search needs)
     (λ c. search needs)
-    (λ c. let s = c .before .before .before .before .before .before in respeak 6 (c .before .before .scale-word .ensures) (omega arith) (lowest-scale (part ukPool (s .args .ending)) (s .args .lone) (s .args .order) (s .args .g) (s .pre .1) (c .before .before .before .before .if1 .left))))
+    (λ c rest alone. let a = c .before .before .before .before .before .before .args in respeak 6 (c .before .before .scale-word .ensures rest alone) (omega arith) (lowest-scale (a .settings) (part ukPool (a .ending)) rest (a .order) (a .g) (c .before .before .before .before .if1 .left))))

@@ -9,6 +9,6 @@ pub plan-ordinal-spec : {M : Type 1} → statement M
 plan-ordinal-spec =
     tie.close
     (tie.spec
-    (λ c κs. let s = c .before .before in (s .pre .0, s .pre .1, s .pre .2, search needs))
+    (λ c κs. search needs)
     (λ c. search needs)
     (λ c. let p = c .before .before .say-ordinal .ensures in (p .said .added .near, spoken-phrase p)))

@@ -23,10 +23,10 @@ module _ (c : tie.After-short-ending) where
   abbrev said : List ℕ
   said = now (c .before .before .before .before .args .text) ++ (45 ∷ part shortPool (c .short-ending .result))
 
-  is-said : said ≡ digitOrdinal (c .before .before .before .before .args .settings .gender) (c .before .before .before .before .args .settings .number) (c .before .before .before .before .args .settings .case) (now (c .before .before .before .before .args .text))
+  is-said : said ≡ digitOrdinal (c .before .before .before .before .args .settings) (now (c .before .before .before .before .args .text))
   is-said =
       let a = c .before .before .before .before .args in
-      is-ordinal (a .settings .gender) (a .settings .number) (a .settings .case) (now (a .text)) (part shortPool (c .short-ending .result)) (c .before .is-soft .result) (c .before .is-soft .ensures) (c .short-ending .ensures)
+      is-ordinal (a .settings) (now (a .text)) (part shortPool (c .short-ending .result)) (c .before .is-soft .result) (c .before .is-soft .ensures) (c .short-ending .ensures)
 
   size : (n : ℕ) → n ≡ length (part shortPool (c .short-ending .result)) → length (now (c .before .before .before .before .args .text)) + 1 + n ≡ length said
   size n e = rw (size-is (now (c .before .before .before .before .args .text)) (part shortPool (c .short-ending .result))) (omega arith)
