@@ -1,8 +1,8 @@
 -- A line that is split into words and matched asks for what the code finds as it goes through it from the front.
 -- Assumes nothing.
 use Prim.Native.Nat.{ℕ}
-use mathlib.Core.Path.{_≡_, refl, ap, _∙_}
-use mathlib.Core.Bool.{Bool, false, cond, _&&_}
+use mathlib.Core.Path.{_≡_, refl, sym, _∙_}
+use mathlib.Core.Bool.{Bool, true, false, cond, _&&_}
 use mathlib.Core.List.{List, [], _∷_}
 use lib.Dec.{ltb}
 use mathlib.Core.Option.{Option, none}
@@ -58,11 +58,11 @@ french-none Money S = refl
 french-none Other S = refl
 
 -- a second or a third setting that is missing is out of range
-no-second : (a b : Bool) {x : Option Spelling} → cond (a && (false && b)) x none ≡ none
-no-second a b = rw (and-false a) refl
+no-second : (a b : Bool) (x : Option Spelling) → cond (a && (false && b)) x none ≡ none
+no-second a b x = rw (and-false a) refl
 
-no-third : (a b c : Bool) {x : Option Spelling} → cond (a && (b && (false && c))) x none ≡ none
-no-third a b c = rw (and-false b, and-false a) refl
+no-third : (a b c : Bool) (x : Option Spelling) → cond (a && (b && (false && c))) x none ≡ none
+no-third a b c x = rw (and-false b, and-false a) refl
 
 -- what words of settings and behind them ask for
 three : Language → Kind → List Word → Option Spelling
@@ -84,18 +84,18 @@ third-is Neither k s (more w h) u v = rw (u, v, w) refl
 
 second-is : (l : Language) (k : Kind) (s : List ℕ) → Cut (afterSpace s) → wordsOf s ≡ nextWord s ∷ wordsOf (afterSpace s) → three l k (wordsOf s) ≡ settledLeft k l s
 unfolding three settledLeft caseOf regionOf nextWord
-second-is Ukrainian k s (one w f a) u = rw (u, w, a) refl
-second-is French k s (one w f a) u = rw (u, w, a) refl
+second-is Ukrainian k s (one w f a) u = rw (u, w, a) (sym (no-third (ltb (genderOf (nextWord s)) 3) (ltb (grammaticalNumberOf (nextWord (afterSpace s))) 2) true _))
+second-is French k s (one w f a) u = rw (u, w, a) (sym (no-third (ltb (feminineOf (nextWord s)) 2) (ltb (reformedOf (nextWord (afterSpace s))) 2) true _))
 second-is Neither k s (one w f a) u = rw (u, w) refl
 second-is l k s (more w h) u = third-is l k s (cut (afterSpace (afterSpace s))) u w
 
 three-is : (l : Language) (k : Kind) (s : List ℕ) → three l k (wordsOf s) ≡ settledLeft k l s
-unfolding three settledLeft
+unfolding three settledLeft grammaticalNumberOf reformedOf nextWord afterSpace
 three-is l k s = go l (cut s)
   where
     go : (l : Language) → Cut s → three l k (wordsOf s) ≡ settledLeft k l s
-    go Ukrainian (one w f a) = rw (w, a) refl
-    go French (one w f a) = rw (w, a) refl
+    go Ukrainian (one w f a) = rw (w, a) (sym (no-second (ltb (genderOf (nextWord s)) 3) _ _))
+    go French (one w f a) = rw (w, a) (sym (no-second (ltb (feminineOf (nextWord s)) 2) _ _))
     go Neither (one w f a) = rw w refl
     go l (more w h) = second-is l k s (cut (afterSpace s)) w
 

@@ -11,14 +11,17 @@ use lib.Dec.{ltb}
 use lib.IntN.{ℤ}
 use lib.ListN.{length, take, drop, set, length-append, length-drop}
 use lib.Seq.{take-all, take-append-seam, length-take-le, drop-append-add, drop-drop, set-split}
-use mathlib.Core.Option.{none, some}
+use mathlib.Core.Option.{Option, none, some}
 use Rattle.base.specs.Buffer.{over}
 use Rattle.base.specs.Answer.{firstOf, Spelling, refused, bytes, fitted, unless, replied, Answers}
 use Rattle.base.specs.declared.Answer.{Answer}
 use Rattle.settings.specs.Settings.{ukrainianSettings, frenchSettings, ukrainianRanges, frenchRanges, within}
+use Rattle.settings.specs.Refused.{outOfRange}
 use Rattle.settings.specs.declared.Settings.{Settings}
+use Rattle.uk_money.specs.Currencies.{Currency}
+use Rattle.uk_money.specs.Codes.{unknown}
 use Rattle.figures.specs.Text.{value, negative, unsigned, wellFormed}
-use Rattle.figures.specs.Refusals.{yearRefusals}
+use Rattle.figures.specs.Refusals.{cardinalRefusals, ordinalRefusals, digitOrdinalRefusals, amountRefusals, yearRefusals}
 use Rattle.figures.specs.Year.{yearOf, yearLimit}
 use Rattle.uk_ordinal_calls.specs.UkOrdinals.{ukToYear}
 use Rattle.phrases_forms.specs.Line.{kindOf, languageOf, genderOf, grammaticalNumberOf, caseOf, feminineOf, reformedOf, regionOf, closed}
@@ -56,33 +59,41 @@ line-fed n l xs e h f =
     } in
     rw e w
 
--- a call's answer of the refusal n or the bytes b, of which no length is above 12,320, and its line
-module _ (a : Answer) (b xs ys : List ℕ) (short : a .length ≤ 12320) (room : 12321 ≤ length xs) where
+-- a call's answer, of which no length is above 12,320, and its line
+module _ (a : Answer) (S : Spelling) (xs ys : List ℕ) (short : a .length ≤ 12320) (room : 12321 ≤ length xs) where
   -- the phrase fits
-  fits : Answers a xs ys (fitted xs b) → (a .number ≡ 0) × ((a .length ≡ length b) × (ys ≡ over xs b))
-  fits e = go (ltb (length xs) (length b)) refl e
+  fits : Answers a xs ys (fitted xs (S .phrase)) → (a .number ≡ 0) × ((a .length ≡ length (S .phrase)) × (ys ≡ over xs (S .phrase)))
+  fits e = go (ltb (length xs) (length (S .phrase))) refl e
     where
-      go : (t : Bool) → ltb (length xs) (length b) ≡ t → Answers a xs ys (cond t (refused 7 (length b)) (bytes b)) → (a .number ≡ 0) × ((a .length ≡ length b) × (ys ≡ over xs b))
-      go true p q = let l = ltb-true (length xs) (length b) p in absurd (omega (arith, l, q .sized))
+      go : (t : Bool) → ltb (length xs) (length (S .phrase)) ≡ t → Answers a xs ys (cond t (refused 7 (length (S .phrase))) (bytes (S .phrase)))
+          → (a .number ≡ 0) × ((a .length ≡ length (S .phrase)) × (ys ≡ over xs (S .phrase)))
+      go true p q = let l = ltb-true (length xs) (length (S .phrase)) p in absurd (omega (arith, l, q .sized))
       go false p q = (q .reported, (q .sized, q .held))
 
-  pub small-number : (n : ℕ) → n < 100 → Answers a xs ys (unless n (fitted xs b)) → a .number < 100
-  small-number zero h e = omega (arith, fits e .0)
-  small-number (suc n) h e = omega (arith, e .reported)
+  pub small-number : S .refusal < 100 → Answers a xs ys (replied S xs) → a .number < 100
+  small-number h e = go (S .refusal) h e
+    where
+      go : (n : ℕ) → n < 100 → Answers a xs ys (unless n (fitted xs (S .phrase))) → a .number < 100
+      go zero h e = omega (arith, fits e .0)
+      go (suc n) h e = omega (arith, e .reported)
 
-  pub line-told : (n r : ℕ) (zs : List ℕ) → Answers a xs ys (unless n (fitted xs b)) → Wrote (lineOf (a .number) (take (a .length) ys)) r ys zs → Wrote (lineOf n b) r xs zs
-  line-told zero r zs e w =
-      let p = fits e in
-      let q : take (a .length) ys ≡ b = rw (p .1 .0, p .1 .1) (take-append-seam b (drop (length b) xs)) in
-      let v : Wrote (b ++ (10 ∷ [])) r ys zs = rw (p .0, q) at w in
-      record { size = v .size; room = v .room; bytes = v .bytes ∙ rw (p .1 .1) (over-over b (10 ∷ []) xs) }
-  line-told (suc n) r zs e w =
-      let v : Wrote (lineOf (suc n) (take (a .length) xs)) r xs zs = rw (e .reported, e .held) at w in
-      subst (λ (x : List ℕ). Wrote x r xs zs) (line-any (suc n) (take (a .length) xs) b (λ (z : suc n ≡ 0). omega arith)) v
+  pub line-told : (r : ℕ) (zs : List ℕ) → Answers a xs ys (replied S xs) → Wrote (lineOf (a .number) (take (a .length) ys)) r ys zs → Wrote (answerTo (some S)) r xs zs
+  line-told r zs e w = go (S .refusal) e
+    where
+      go : (n : ℕ) → Answers a xs ys (unless n (fitted xs (S .phrase))) → Wrote (lineOf n (S .phrase)) r xs zs
+      go zero e =
+          let p = fits e in
+          let q : take (a .length) ys ≡ S .phrase = rw (p .1 .0, p .1 .1) (take-append-seam (S .phrase) (drop (length (S .phrase)) xs)) in
+          let v : Wrote (S .phrase ++ (10 ∷ [])) r ys zs = rw (p .0, q) at w in
+          record { size = v .size; room = v .room; bytes = v .bytes ∙ rw (p .1 .1) (over-over (S .phrase) (10 ∷ []) xs) }
+      go (suc n) e =
+          let v : Wrote (lineOf (suc n) (take (a .length) xs)) r xs zs = rw (e .reported, e .held) at w in
+          subst (λ (x : List ℕ). Wrote x r xs zs) (line-any (suc n) (take (a .length) xs) (S .phrase) (λ (z : suc n ≡ 0). omega arith)) v
 
   -- the same, where the form has its text
-  pub spoken : (t : Bool) (n r : ℕ) (zs : List ℕ) → t ≡ true → Answers a xs ys (unless n (fitted xs b)) → Wrote (lineOf (a .number) (take (a .length) ys)) r ys zs → Wrote (answerTo (cond t (some (record { refusal = n; phrase = b })) none)) r xs zs
-  spoken t n r zs e p f = rw e (line-told n r zs p f)
+  pub spoken : (t : Bool) (r : ℕ) (zs : List ℕ) → t ≡ true → Answers a xs ys (replied S xs) → Wrote (lineOf (a .number) (take (a .length) ys)) r ys zs
+      → Wrote (answerTo (cond t (some S) none)) r xs zs
+  spoken t r zs e p f = rw e (line-told r zs p f)
 
 pub line-refused : (n m : ℕ) (b : List ℕ) (r : ℕ) (xs ys : List ℕ) → m ≡ n → (m ≡ 0 → ⊥) → Wrote (lineOf m []) r xs ys → Wrote (lineOf n b) r xs ys
 line-refused n m b r xs ys e z w = subst (λ (x : List ℕ). Wrote x r xs ys) (line-any m [] b z ∙ ap (λ (k : ℕ). lineOf k b) e) w
@@ -94,18 +105,41 @@ pub unspoken : (t : Bool) (S : Spelling) (r : ℕ) (xs ys : List ℕ) → t ≡ 
 unspoken t S r xs ys e w = rw e w
 
 -- every number of a list of conditions is small
-pub Small : List (Bool × ℕ) → Type 0
+Small : List (Bool × ℕ) → Type 0
 Small [] = Unit {0}
 Small (c ∷ cs) = (c .1 < 100) × Small cs
 
-pub first-small : (cs : List (Bool × ℕ)) → Small cs → firstOf cs < 100
+first-small : (cs : List (Bool × ℕ)) → Small cs → firstOf cs < 100
 unfolding Small
 first-small [] w = omega arith
-first-small (c ∷ cs) w = go (c .0)
+first-small (c ∷ cs) w = go (c .0) (first-small cs (w .1))
   where
-    go : (t : Bool) → cond t (c .1) (firstOf cs) < 100
-    go true = w .0
-    go false = first-small cs (w .1)
+    go : (t : Bool) → firstOf cs < 100 → cond t (c .1) (firstOf cs) < 100
+    go true h = w .0
+    go false h = h
+
+-- the refusals of each kind, 0 for none
+module _ (rs : List (ℕ × ℕ)) (t : List ℕ) where
+  pub cardinal-small : (most : ℕ) → firstOf (outOfRange rs ∷ cardinalRefusals most t) < 100
+  unfolding Small
+  cardinal-small most = first-small (outOfRange rs ∷ cardinalRefusals most t) (omega arith, (omega arith, (omega arith, tt)))
+
+  pub ordinal-small : (most : ℕ) → firstOf (outOfRange rs ∷ ordinalRefusals most t) < 100
+  unfolding Small
+  ordinal-small most = first-small (outOfRange rs ∷ ordinalRefusals most t) (omega arith, (omega arith, (omega arith, (omega arith, tt))))
+
+  pub digit-ordinal-small : firstOf (outOfRange rs ∷ digitOrdinalRefusals t) < 100
+  unfolding Small
+  digit-ordinal-small = first-small (outOfRange rs ∷ digitOrdinalRefusals t) (omega arith, (omega arith, (omega arith, (omega arith, tt))))
+
+  pub amount-small : (c : Option Currency) → firstOf (outOfRange rs ∷ unknown c ∷ amountRefusals t) < 100
+  unfolding Small
+  amount-small none = first-small (outOfRange rs ∷ unknown none ∷ amountRefusals t) (omega arith, (omega arith, (omega arith, (omega arith, (omega arith, tt)))))
+  amount-small (some c) = first-small (outOfRange rs ∷ unknown (some c) ∷ amountRefusals t) (omega arith, (omega arith, (omega arith, (omega arith, (omega arith, tt)))))
+
+pub year-small : (t : List ℕ) → firstOf (yearRefusals t) < 100
+unfolding Small
+year-small t = first-small (yearRefusals t) (omega arith, (omega arith, tt))
 
 -- what ends in a bracket is not empty
 pub closed-some : (s : List ℕ) → closed s ≡ true → 0 < length s
@@ -123,7 +157,7 @@ clash n e = absurd (omega arith)
 pub year-fine : (t : List ℕ) → firstOf (yearRefusals t) ≡ 0 → (wellFormed t ≡ true) × (value (unsigned t) ≤ yearLimit (negative t))
 year-fine t e = go (wellFormed t) (ltb (yearLimit (negative t)) (value (unsigned t))) refl refl e
   where
-    go : (w l : Bool) → wellFormed t ≡ w → ltb (yearLimit (negative t)) (value (unsigned t)) ≡ l → cond (not w) 3 (cond l 5 0) ≡ 0
+    go : (w l : Bool) → wellFormed t ≡ w → ltb (yearLimit (negative t)) (value (unsigned t)) ≡ l → _≡_ {A = ℕ} (cond (not w) 3 (cond l 5 0)) 0
         → (wellFormed t ≡ true) × (value (unsigned t) ≤ yearLimit (negative t))
     go false l p q r = clash 2 r
     go true true p q r = clash 4 r

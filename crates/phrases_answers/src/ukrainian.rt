@@ -15,7 +15,8 @@ ghost use Rattle.phrases_forms.specs.declared.Language.the-variants.{Ukrainian 
 ghost use mathlib.Core.Option.{some};
 ghost use Rattle.uk_money_calls.specs.MoneyCalls.{ukToCurrency};
 ghost use Rattle.phrases_answers.specs.Answers.{answerTo, yearText};
-ghost use Rattle.phrases_answers.specs.Left.{codeLeft, ukrainianLeft, settledLeft};
+ghost use Rattle.phrases_forms.specs.Cuts.{codeLeft};
+ghost use Rattle.phrases_answers.specs.Left.{ukrainianLeft, settledLeft};
 ghost use Rattle.phrases_answers.specs.Wrote.{Wrote};
 
 // A cardinal's form.

@@ -3,7 +3,7 @@
 use Prim.Native.Nat.{ℕ, zero, suc}
 use mathlib.Core.Path.{_≡_, refl, ap, _∙_}
 use mathlib.Core.Bool.{false}
-use mathlib.Core.List.{[], flatten}
+use mathlib.Core.List.{List, [], flatten}
 use native.Mathlib.Omega.{arith}
 use lib.Dec.{lit<}
 use Rattle.base.specs.Utf8.{utf8, form1, form2, form3}
@@ -84,6 +84,6 @@ unfolding form1 form2 form3 zeros gendered units teensBases teensFlexions tens h
 ascii-apostrophe = same-not (card 0 0 0 "5" .phrase) (utf8 "п'ять") refl
 
 pub samples-hold : All samples
-unfolding form1 form2 form3 zeros gendered units teensBases teensFlexions tens hundreds thousandFlexions megaBases megaFlexions unitForm teenForm ukrainianDigits scaleEnding scaleNoun ukrainianGroup ukrainian groupsBelow cardinalWords cardinalPhrase ordinalZeroBase oneBase ordinalUnitBases ordinalTensBases hundredBase adjectiveHardFlexionsSingular adjectiveHardFlexionsPlural adjectiveSoftFlexionsSingular adjectiveSoftFlexionsPlural year flexion compoundDigits compoundWord plainWords lowestWords ordinalAt ordinalFrom ordinalWords yearNoun yearWords flatten noun2stGroupHardDeclensions noun2stGroupSoftDeclensions noun1stGroupSoftDeclensionsVowel noun1stGroupHardDeclensions adjectiveHardMasculine hryvnias kopiykas endings formOf nameForms agreedName currencies currencyIn countWords amountWords amountPhrase frUnits frTens teens megas centWord hundredWords tenWord roundWord link unitWord pairWord tensWords megaName scaleWord scaleWords frenchGroup french groupsBelow cardinalWords cardinalPhrase withoutE nth nthWords nthOf nthPhrase
+unfolding form1 form2 form3 zeros gendered units teensBases teensFlexions tens hundreds thousandFlexions megaBases megaFlexions unitForm teenForm ukrainianDigits scaleEnding scaleNoun ukrainianGroup ukrainian groupsBelow cardinalWords cardinalPhrase ordinalZeroBase oneBase ordinalUnitBases ordinalTensBases hundredBase adjectiveHardFlexionsSingular adjectiveHardFlexionsPlural adjectiveSoftFlexionsSingular adjectiveSoftFlexionsPlural year flexion compoundDigits compoundWord plainWords lowestWords ordinalAt ordinalFrom ordinalWords yearNoun yearWords flatten noun2stGroupHardDeclensions noun2stGroupSoftDeclensions noun1stGroupSoftDeclensionsVowel noun1stGroupHardDeclensions adjectiveHardMasculine hryvnias kopiykas endings formOf nameForms agreedName currencies currencyIn countWords amountWords amountPhrase frUnits frTens teens megas centWord hundredWords tenWord roundWord link unitWord pairWord tensWords megaName scaleWord scaleWords frenchGroup french withoutE nth nthWords nthOf nthPhrase
 samples-hold =
     ((refl, refl), ((refl, refl), ((refl, refl), ((refl, refl), ((refl, refl), ((refl, refl), ((refl, refl), ((refl, refl), ((refl, refl), ((refl, refl), ((refl, refl), ((refl, refl), ((refl, refl), (refl, (refl, (refl, (refl, (refl, (refl, (unread-two, (genitive-after-five, (two-hundredth, (un-mille, (ascii-apostrophe, tt))))))))))))))))))))))))

@@ -1,12 +1,12 @@
 -- `phrases_answers::settle` meets its contract.
 -- Assumes nothing.
 use borrow.Author.Needs.{needs}
-use Rattle.phrases_answers.specs.Answers.{settled}
+use Rattle.phrases_answers.specs.Left.{settledLeft}
 use Rattle.phrases_answers.proofs.settle.Statement.{statement}
 use Rattle.phrases_answers.proofs.settle.Tie as tie
 
 pub settle-spec : {M : Type 1} → statement M
-unfolding settled
+unfolding settledLeft
 settle-spec =
     tie.close
     (tie.spec

@@ -1,12 +1,12 @@
 -- `phrases_answers::french::form` meets its contract.
 -- Assumes nothing.
 use borrow.Author.Needs.{needs}
-use Rattle.phrases_answers.specs.Answers.{frenchForm}
+use Rattle.phrases_answers.specs.Left.{frenchLeft}
 use Rattle.phrases_answers.proofs.french.form.Statement.{statement}
 use Rattle.phrases_answers.proofs.french.form.Tie as tie
 
 pub form-spec : {M : Type 1} → statement M
-unfolding frenchForm
+unfolding frenchLeft
 form-spec =
     tie.close
     (tie.spec

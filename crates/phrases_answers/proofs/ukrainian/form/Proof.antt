@@ -1,12 +1,12 @@
 -- `phrases_answers::ukrainian::form` meets its contract.
 -- Assumes nothing.
 use borrow.Author.Needs.{needs}
-use Rattle.phrases_answers.specs.Answers.{ukrainianForm}
+use Rattle.phrases_answers.specs.Left.{ukrainianLeft}
 use Rattle.phrases_answers.proofs.ukrainian.form.Statement.{statement}
 use Rattle.phrases_answers.proofs.ukrainian.form.Tie as tie
 
 pub form-spec : {M : Type 1} → statement M
-unfolding ukrainianForm
+unfolding ukrainianLeft
 form-spec =
     tie.close
     (tie.spec

@@ -3,13 +3,13 @@
 use native.Mathlib.Omega.{arith}
 use borrow.Author.Needs.{needs}
 use lib.ListN.{length-take}
-use Rattle.phrases_answers.specs.Answers.{ukrainianForm}
+use Rattle.phrases_answers.specs.Left.{ukrainianLeft}
 use Rattle.phrases_answers.proofs.Laws.{tail}
 use Rattle.phrases_answers.proofs.ukrainian.money.Statement.{statement}
 use Rattle.phrases_answers.proofs.ukrainian.money.Tie as tie
 
 pub money-spec : {M : Type 1} → statement M
-unfolding ukrainianForm
+unfolding ukrainianLeft
 money-spec =
     tie.close
     (tie.spec (λ c κs. search needs)

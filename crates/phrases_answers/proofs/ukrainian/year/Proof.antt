@@ -5,13 +5,13 @@ use native.Mathlib.Omega.{arith}
 use borrow.Author.Needs.{needs}
 use lib.ListN.{length-take}
 use Rattle.phrases_forms.specs.Line.{closed}
-use Rattle.phrases_answers.specs.Answers.{ukrainianForm}
+use Rattle.phrases_answers.specs.Left.{ukrainianLeft}
 use Rattle.phrases_answers.proofs.Laws.{spoken-as, unspoken, closed-some}
 use Rattle.phrases_answers.proofs.ukrainian.year.Statement.{statement}
 use Rattle.phrases_answers.proofs.ukrainian.year.Tie as tie
 
 pub year-spec : {M : Type 1} → statement M
-unfolding ukrainianForm
+unfolding ukrainianLeft
 year-spec =
     tie.close
     (tie.spec (λ c κs. search needs)
