@@ -10,7 +10,7 @@ use Rattle.base.specs.Answer.{Spelling}
 use Rattle.base.specs.Join.{Word}
 use Rattle.base.proofs.Fronts.{and-false}
 use Rattle.settings.specs.declared.Settings.{Settings}
-use Rattle.phrases_forms.specs.Line.{wordsOf, kindOf, languageOf, genderOf, grammaticalNumberOf, caseOf, feminineOf, reformedOf, regionOf}
+use Rattle.phrases_forms.specs.Line.{divided, wordsOf, kindOf, languageOf, genderOf, grammaticalNumberOf, caseOf, feminineOf, reformedOf, regionOf}
 use Rattle.phrases_forms.specs.Cuts.{nextWord, afterSpace}
 use Rattle.phrases_forms.specs.declared.Kind.{Kind}
 use Rattle.phrases_forms.specs.declared.Kind.the-variants.{Card, Ord, Num, Year, Money, Other}
@@ -89,15 +89,15 @@ second-is French k s (one w f a) u = rw (u, w, a) (sym (no-third (ltb (feminineO
 second-is Neither k s (one w f a) u = rw (u, w) refl
 second-is l k s (more w h) u = third-is l k s (cut (afterSpace (afterSpace s))) u w
 
-three-is : (l : Language) (k : Kind) (s : List ℕ) → three l k (wordsOf s) ≡ settledLeft k l s
+first-is : (l : Language) (k : Kind) (s : List ℕ) → Cut s → three l k (wordsOf s) ≡ settledLeft k l s
 unfolding three settledLeft grammaticalNumberOf reformedOf nextWord afterSpace
-three-is l k s = go l (cut s)
-  where
-    go : (l : Language) → Cut s → three l k (wordsOf s) ≡ settledLeft k l s
-    go Ukrainian (one w f a) = rw (w, a) (sym (no-second (ltb (genderOf (nextWord s)) 3) _ _))
-    go French (one w f a) = rw (w, a) (sym (no-second (ltb (feminineOf (nextWord s)) 2) _ _))
-    go Neither (one w f a) = rw w refl
-    go l (more w h) = second-is l k s (cut (afterSpace s)) w
+first-is Ukrainian k s (one w f a) = rw (w, a) (sym (no-second (ltb (genderOf (nextWord s)) 3) (ltb (caseOf []) 6 && true) (ukrainianLeft k (ukrainianNamed (nextWord s) [] []) [])))
+first-is French k s (one w f a) = rw (w, a) (sym (no-second (ltb (feminineOf (nextWord s)) 2) (ltb (regionOf []) 3 && true) (frenchLeft k (frenchNamed (nextWord s) [] []) [])))
+first-is Neither k s (one w f a) = rw w refl
+first-is l k s (more w h) = second-is l k s (cut (afterSpace s)) w
+
+three-is : (l : Language) (k : Kind) (s : List ℕ) → three l k (wordsOf s) ≡ settledLeft k l s
+three-is l k s = first-is l k s (cut s)
 
 -- the whole line
 form-three : (a b : Word) (ws : List Word) → form (a ∷ b ∷ ws) ≡ three (languageOf b) (kindOf a) ws
@@ -108,7 +108,7 @@ form-three a b (c ∷ d ∷ []) = refl
 form-three a b (c ∷ d ∷ e ∷ ws) = refl
 
 pub form-is : (s : List ℕ) → form (wordsOf s) ≡ settledLeft (kindOf (nextWord s)) (languageOf (nextWord (afterSpace s))) (afterSpace (afterSpace s))
-unfolding form settledLeft
+unfolding form settledLeft three divided languageOf nextWord
 form-is s = go (cut s)
   where
     second : (w : Word) (t : List ℕ) → Cut t → form (w ∷ wordsOf t) ≡ settledLeft (kindOf w) (languageOf (nextWord t)) (afterSpace t)

@@ -168,8 +168,8 @@ module _ (S : Settings) (t : List ℕ) (i : within (ukrainianRanges S) ≡ true)
   pub year-refusal : yearText S t .refusal ≡ firstOf (yearRefusals t)
   year-refusal = rw i refl
 
-  pub year-asked : (y : ℤ) {a : Answer} {xs ys : List ℕ} → y ≡ yearOf t → Answers a xs ys (replied (ukToYear S y) xs) → Answers a xs ys (fitted xs (yearText S t .phrase))
-  year-asked y {xs = xs} e a = rw i at (rw e at a)
+  pub year-asked : (y : ℤ) {a : Answer} {xs ys : List ℕ} → y ≡ yearOf t → firstOf (yearRefusals t) ≡ 0 → Answers a xs ys (replied (ukToYear S y) xs) → Answers a xs ys (replied (yearText S t) xs)
+  year-asked y e z a = rw (i, z) (rw (i, e) at a)
 
 -- from the settings' words to the form
 module _ (k : Kind) (s t : List ℕ) (x y z r : ℕ) (xs ys : List ℕ) where

@@ -13,7 +13,7 @@ settle-spec =
     (λ c κs. search needs)
     (λ c. search needs)
     (λ c. let s = c .before .before .before .before .before .before .before .before .before .before .args .s .now in let w = c .before .before .before .before .before .before .before .french in let e = w .ensures in
-    settle-fr _ s _ _ _ _ _ _ _ (e .0 .0) (e .0 .1) (e .0 .2) (tail (w .result .next) s ∙ e .1 .0) (sym (c .before .before .before .before .before .before .in-range .ensures) ∙ c .before .before .before .before .before .if1 .taken) (c .before .before .form .ensures))
+    settle-fr _ s _ _ _ _ _ _ _ (e .0 .0) (e .0 .1) (e .0 .2) (tail (w .result .next) s ∙ e .1 .0) (sym (c .before .before .before .before .before .before .is-french .ensures) ∙ c .before .before .before .before .before .if1 .taken) (c .before .before .form .ensures))
     (λ c κs. search needs) (λ c. search needs)
     (λ c. let s = c .before .before .before .before .before .before .before .before .before .args .s .now in let e = c .before .before .before .before .before .before .french .ensures in
-    unsettled-fr (c .before .before .before .before .before .before .before .before .before .args .kind) s _ _ _ _ _ _ (e .0 .0) (e .0 .1) (e .0 .2) (sym (c .before .before .before .before .before .in-range .ensures) ∙ c .before .before .before .before .if1 .left) (c .before .before .bad .ensures)))
+    unsettled-fr (c .before .before .before .before .before .before .before .before .before .args .kind) s _ _ _ _ _ _ (e .0 .0) (e .0 .1) (e .0 .2) (sym (c .before .before .before .before .before .is-french .ensures) ∙ c .before .before .before .before .if1 .left) (c .before .before .bad .ensures)))
