@@ -72,7 +72,11 @@ pub fn stands(plan: &[u32], s: &[u8]) -> bool
 pub fn joiner(settings: Settings) -> u8
     ensures { λ r. ⌜ r ≡ frenchJoiner settings ⌝ }
 {
-    if settings.reformed == REFORMED { b'-' } else { b' ' }
+    if settings.reformed == REFORMED {
+        b'-'
+    } else {
+        b' '
+    }
 }
 
 // Whether a unit at this order is `une`.
@@ -80,7 +84,11 @@ pub fn is_une(settings: Settings, order: usize, u: usize) -> bool
     ensures { λ r. ⌜ r ≡ isUne settings order u ⌝ }
 {
     if u == 1 {
-        if order == 0 { settings.gender == FEMININE } else { false }
+        if order == 0 {
+            settings.gender == FEMININE
+        } else {
+            false
+        }
     } else {
         false
     }

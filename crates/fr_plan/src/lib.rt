@@ -84,7 +84,14 @@ fn linked(settings: Settings, t: usize, u: usize, place: u16, plan: &mut [u32], 
 }
 
 // The words of tens above 1 and units: the tens word below and a teen, a round number, or a tens word and a unit.
-fn high_words(settings: Settings, order: usize, t: usize, u: usize, plan: &mut [u32], at: usize) -> usize
+fn high_words(
+    settings: Settings,
+    order: usize,
+    t: usize,
+    u: usize,
+    plan: &mut [u32],
+    at: usize,
+) -> usize
     requires { ⌜ (1 < t) × (t < 10) × (u < 10) × Within (frenchRanges settings) × (at + 3 ≤ length (now plan)) ⌝ }
     ensures { λ r. ⌜ Appended 3 (now (plan .entry)) at (now (plan .exit)) r (spacedBy (frenchJoiner settings) (tensWords settings order t u)) ⌝ }
 {
@@ -100,7 +107,14 @@ fn high_words(settings: Settings, order: usize, t: usize, u: usize, plan: &mut [
 }
 
 // The words of the tens and units digits.
-fn low_words(settings: Settings, order: usize, t: usize, u: usize, plan: &mut [u32], at: usize) -> usize
+fn low_words(
+    settings: Settings,
+    order: usize,
+    t: usize,
+    u: usize,
+    plan: &mut [u32],
+    at: usize,
+) -> usize
     requires { ⌜ (t < 10) × (u < 10) × Within (frenchRanges settings) × (at + 3 ≤ length (now plan)) ⌝ }
     ensures { λ r. ⌜ Appended 3 (now (plan .entry)) at (now (plan .exit)) r (spacedBy (frenchJoiner settings) (tensWords settings order t u)) ⌝ }
 {

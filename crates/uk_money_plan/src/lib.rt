@@ -54,13 +54,7 @@ fn say_adjective(stem: u16, place: usize, plan: &mut [u32], at: usize) -> usize
 }
 
 // The name of a row, as it agrees with the count n.
-fn say_name(
-    row: &[u16; 4],
-    settings: Settings,
-    n: usize,
-    plan: &mut [u32],
-    at: usize,
-) -> usize
+fn say_name(row: &[u16; 4], settings: Settings, n: usize, plan: &mut [u32], at: usize) -> usize
     requires { ⌜ (getD (now row) 2 0 < 8) × Within (ukrainianRanges settings) × (at + 4 ≤ length (now plan)) ⌝ }
     ensures { λ r. ⌜ ((name : Name) → Row name (now (row .entry)) → Told ukPool 4 (now (plan .entry)) at (now (plan .exit)) r (agreedName settings name n)) ⌝ }
 {

@@ -3,9 +3,9 @@
 mod places; // places.rt: the tables of uk.rs, with the place of each text
 mod pool; // pool.rt: the endings of digit ordinals, which have a pool of their own, so that all texts need not be made for one of them
 
+use settings::GENITIVE;
 use settings::MASCULINE;
 use settings::NOMINATIVE;
-use settings::GENITIVE;
 use settings::SINGULAR;
 use settings::Settings;
 ghost use mathlib.Core.Path.{_≡_};

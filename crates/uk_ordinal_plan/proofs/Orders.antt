@@ -102,6 +102,7 @@ module _ (gs : List ℕ) (all : Groups22 gs) (k : ℕ) (low : LowestAt gs k) whe
         inside : Dec (k < n) → k < n
         inside (yes l) = l
         inside (no l) = absurd (low .some h (top .zeros k (omega arith)))
+
         high : above k (total gs) ≡ 0 → Dec (k < n) → getD gs (n - 1) 0 ≡ 0
         high z d = sym (getD-set-other gs k (n - 1) 0 0 (λ q. e (omega (arith, inside d)))) ∙ none-total (set gs k 0) (above-is h ∙ z) (n - 1) (omega arith)
 

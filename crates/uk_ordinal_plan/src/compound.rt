@@ -29,7 +29,12 @@ fn count_unit(settings: Settings, u: usize, separator: u8, plan: &mut [u32], at:
     if u == 1 {
         return push(plan, at, separator, uk_ordinal::one_base());
     }
-    push(plan, at, separator, uk::unit(uk_ordinal::in_genitive(settings), u))
+    push(
+        plan,
+        at,
+        separator,
+        uk::unit(uk_ordinal::in_genitive(settings), u),
+    )
 }
 
 // A compound's teen, or its tens if any and its unit if any.
@@ -49,9 +54,19 @@ fn count_low(
     }
     if t == 1 {
         let k = push(plan, at, separator, uk::teen(u));
-        return push(plan, k, ON, uk::teen_ending(uk_ordinal::in_genitive(settings)));
+        return push(
+            plan,
+            k,
+            ON,
+            uk::teen_ending(uk_ordinal::in_genitive(settings)),
+        );
     }
-    let k = push(plan, at, separator, uk::ten(uk_ordinal::in_genitive(settings), t));
+    let k = push(
+        plan,
+        at,
+        separator,
+        uk::ten(uk_ordinal::in_genitive(settings), t),
+    );
     count_unit(settings, u, ON, plan, k)
 }
 
@@ -63,7 +78,12 @@ fn count(settings: Settings, h: usize, t: usize, u: usize, plan: &mut [u32], at:
     if h == 0 {
         return count_low(settings, t, u, SPACE, plan, at);
     }
-    let k = push(plan, at, SPACE, uk::hundred(uk_ordinal::in_genitive(settings), h));
+    let k = push(
+        plan,
+        at,
+        SPACE,
+        uk::hundred(uk_ordinal::in_genitive(settings), h),
+    );
     count_low(settings, t, u, ON, plan, k)
 }
 

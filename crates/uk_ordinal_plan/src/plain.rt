@@ -26,7 +26,12 @@ fn ten_word(settings: Settings, t: usize, plan: &mut [u32], at: usize) -> usize
     if t == 0 {
         return at;
     }
-    push(plan, at, SPACE, uk::ten(uk_ordinal::in_nominative(settings), t))
+    push(
+        plan,
+        at,
+        SPACE,
+        uk::ten(uk_ordinal::in_nominative(settings), t),
+    )
 }
 
 // The tens and units that carry the ending.
@@ -55,13 +60,7 @@ fn tail_words(
 }
 
 // The lowest group at order 0.
-pub fn plain_words(
-    settings: Settings,
-    g: usize,
-    ending: u16,
-    plan: &mut [u32],
-    at: usize,
-) -> usize
+pub fn plain_words(settings: Settings, g: usize, ending: u16, plan: &mut [u32], at: usize) -> usize
     requires { ⌜ Within (ukrainianRanges settings) × (at + 4 ≤ length (now plan)) ⌝ }
     ensures { λ r. ⌜ Told ukPool 4 (now (plan .entry)) at (now (plan .exit)) r (plainWords settings (part ukPool ending) g) ⌝ }
 {

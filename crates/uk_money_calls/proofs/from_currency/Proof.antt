@@ -11,9 +11,10 @@ use Rattle.uk_money_calls.proofs.from_currency.Tie as tie
 
 read-requires : tie.Need-read-requires
 read-requires c κs =
-    let a = c .before .before .before .before .before .before .before .before .before .args in
-    (rw (c .before .ukrainian .ensures) (within-holds (ukrainianRanges (ukrainianSettings (a .gender) (a .number) (a .case))) (sym (c .before .before .before .before .before .is-ukrainian .ensures) ∙ c .before .before .before .before .if1 .taken)),
-    c .before .before .if2 .taken)
+    let a = c .before .before .before .before .before .before .before .before .before .args in (
+      rw (c .before .ukrainian .ensures) (within-holds (ukrainianRanges (ukrainianSettings (a .gender) (a .number) (a .case))) (sym (c .before .before .before .before .before .is-ukrainian .ensures) ∙ c .before .before .before .before .if1 .taken)),
+      c .before .before .if2 .taken,
+    )
 
 returns : tie.Need-returns
 returns c =

@@ -23,18 +23,20 @@ returns-2 c =
     let s = c .before .before .before .before .before .before .before in
     let a = s .args in
     let n = total (a .gs .now) in
-    let t = c .before .before .say-fraction .ensures in
-    (omega (arith, t .added .near),
-    told-phrase t ∙ part-is (a .settings) (currencyAt (a .currency)) n (a .hundredths) (eqb-true n 0 (sym (s .pre .1 .2) ∙ c .before .before .before .before .if2 .taken)) (c .before .before .before .before .before .if1 .left))
+    let t = c .before .before .say-fraction .ensures in (
+      omega (arith, t .added .near),
+      told-phrase t ∙ part-is (a .settings) (currencyAt (a .currency)) n (a .hundredths) (eqb-true n 0 (sym (s .pre .1 .2) ∙ c .before .before .before .before .if2 .taken)) (c .before .before .before .before .before .if1 .left),
+    )
 
 returns-3 : tie.Need-returns-3
 returns-3 c =
     let s = c .before .before .before .before .before .before .before .before .before .before .before in
     let a = s .args in
     let n = total (a .gs .now) in
-    let t = tell 50 (c .before .before .before .before .before .before .say-main2 .ensures) (c .before .before .say-fraction2 .ensures) (omega (arith, s .pre .0 .2)) in
-    (omega (arith, t .added .near),
-    told-phrase t ∙ both-are (a .settings) (currencyAt (a .currency)) n (a .hundredths) (eqb-false n 0 (sym (s .pre .1 .2) ∙ c .before .before .before .before .before .before .before .before .if2 .left)) (c .before .before .before .before .before .before .before .before .before .if1 .left))
+    let t = tell 50 (c .before .before .before .before .before .before .say-main2 .ensures) (c .before .before .say-fraction2 .ensures) (omega (arith, s .pre .0 .2)) in (
+      omega (arith, t .added .near),
+      told-phrase t ∙ both-are (a .settings) (currencyAt (a .currency)) n (a .hundredths) (eqb-false n 0 (sym (s .pre .1 .2) ∙ c .before .before .before .before .before .before .before .before .if2 .left)) (c .before .before .before .before .before .before .before .before .before .if1 .left),
+    )
 
 pub plan-money-spec : {M : Type 1} → statement M
 plan-money-spec =
