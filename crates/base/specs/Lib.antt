@@ -4,6 +4,7 @@ pub mod Front
 pub mod Same
 pub mod Buffer
 pub mod Join
+pub mod Divide
 pub mod Decides
 pub mod Answer
 pub mod Claim

@@ -9,7 +9,8 @@ use borrow.Author.Tests.{not-true}
 use lib.ListN.{length}
 use Rattle.tables.proofs.Tests.{clash-of as clash}
 use Rattle.base.specs.Join.{Word, spacedBy, joinedBy}
-use Rattle.tokens.specs.Tokens.{isGap, toFirst, split}
+use Rattle.tokens.specs.Tokens.{isGap, split}
+use Rattle.base.specs.Divide.{toFirst}
 use Rattle.tokens.proofs.Words.{split-first}
 use Rattle.fr.specs.Rules.{nth, nthWords}
 use Rattle.fr_read.specs.Reading.{meant, meanings}

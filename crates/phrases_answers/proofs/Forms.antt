@@ -10,7 +10,8 @@ use Rattle.base.specs.Answer.{Spelling}
 use Rattle.base.specs.Join.{Word}
 use Rattle.base.proofs.Fronts.{and-false}
 use Rattle.settings.specs.declared.Settings.{Settings}
-use Rattle.phrases_forms.specs.Line.{divided, wordsOf, kindOf, languageOf, genderOf, grammaticalNumberOf, caseOf, feminineOf, reformedOf, regionOf}
+use Rattle.phrases_forms.specs.Line.{wordsOf, kindOf, languageOf, genderOf, grammaticalNumberOf, caseOf, feminineOf, reformedOf, regionOf}
+use Rattle.base.specs.Divide.{divided}
 use Rattle.phrases_forms.specs.Cuts.{nextWord, afterSpace}
 use Rattle.phrases_forms.specs.declared.Kind.{Kind}
 use Rattle.phrases_forms.specs.declared.Kind.the-variants.{Card, Ord, Num, Year, Money, Other}

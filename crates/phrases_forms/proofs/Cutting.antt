@@ -11,7 +11,8 @@ use lib.ListN.{length, getD, take}
 use mathlib.Core.Option.{Option, none, some}
 use Rattle.base.specs.Answer.{Spelling}
 use Rattle.base.specs.Join.{Word}
-use Rattle.phrases_forms.specs.Line.{divided, wordsOf, free, run, inner, closed, textForm, codeForm}
+use Rattle.phrases_forms.specs.Line.{wordsOf, free, run, inner, closed, textForm, codeForm}
+use Rattle.base.specs.Divide.{divided}
 use Rattle.phrases_forms.specs.Cuts.{nextWord, afterSpace, textLeft, codeLeft}
 
 -- a space stands in the line

@@ -8,6 +8,7 @@ use lib.Dec.{eqb}
 use lib.ListN.{length, getD, take}
 use mathlib.Core.Option.{Option, none, some}
 use Rattle.base.specs.Answer.{Spelling}
+use Rattle.base.specs.Divide.{divided}
 use Rattle.base.specs.Join.{Word, space}
 use Rattle.base.specs.Utf8.{utf8}
 use Rattle.base.specs.Same.{sameText}
@@ -15,16 +16,6 @@ use Rattle.phrases_forms.specs.declared.Kind.{Kind}
 use Rattle.phrases_forms.specs.declared.Kind.the-variants.{Card, Ord, Num, Year, Money, Other}
 use Rattle.phrases_forms.specs.declared.Language.{Language}
 use Rattle.phrases_forms.specs.declared.Language.the-variants.{Ukrainian, French, Neither}
-
--- a byte put before the first of some parts
-abbrev pub toFirst : ℕ → List (List ℕ) → List (List ℕ)
-toFirst b [] = (b ∷ []) ∷ []
-toFirst b (l ∷ ls) = (b ∷ l) ∷ ls
-
--- what a byte d divides: what stands before each d, and at last what is behind them all
-unfoldable pub divided : ℕ → List ℕ → List (List ℕ)
-divided d [] = [] ∷ []
-divided d (b ∷ s) = cond (eqb b d) ([] ∷ divided d s) (toFirst b (divided d s))
 
 -- the words of a line ("Single spaces"); brackets belong to the words that they open or close
 abbrev pub wordsOf : List ℕ → List Word

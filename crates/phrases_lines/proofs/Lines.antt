@@ -9,7 +9,7 @@ use borrow.Author.Tests.{ne-eqb, lt-leb}
 use lib.Dec.{eqb}
 use lib.ListN.{length, length-append}
 use Rattle.tables.proofs.Tests.{clash-of as clash}
-use Rattle.phrases_forms.specs.Line.{toFirst, divided}
+use Rattle.base.specs.Divide.{toFirst, divided}
 use Rattle.phrases_answers.specs.Answers.{answerLine, badLine}
 use Rattle.phrases_lines.specs.Program.{parts, lastAnswer, answers, program, isLine}
 

@@ -5,7 +5,7 @@ use mathlib.Core.Path.{_≡_}
 use mathlib.Core.Bool.{Bool, true, not, _&&_}
 use mathlib.Core.List.{List, [], _∷_, _++_}
 use lib.Dec.{eqb}
-use Rattle.phrases_forms.specs.Line.{divided}
+use Rattle.base.specs.Divide.{divided}
 use Rattle.phrases_answers.specs.Answers.{answerLine}
 
 -- what line feeds ("byte 10") divide: the lines, and at last what is behind them all

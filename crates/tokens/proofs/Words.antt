@@ -9,7 +9,8 @@ use borrow.Author.Tests.{not-true}
 use lib.ListN.{length}
 use Rattle.tables.proofs.Tests.{clash-of, both-hold}
 use Rattle.base.specs.Join.{Word, spaced, joined}
-use Rattle.tokens.specs.Tokens.{isGap, firstWord, afterWord, toFirst, split}
+use Rattle.tokens.specs.Tokens.{isGap, firstWord, afterWord, split}
+use Rattle.base.specs.Divide.{toFirst}
 
 -- a text that is not empty begins with its first word
 pub split-first : (s : List ℕ) → 0 < length s → split s ≡ firstWord s ∷ split (afterWord s)

@@ -7,6 +7,7 @@ use mathlib.Core.Bool.{Bool, cond}
 use mathlib.Core.List.{List, [], _∷_}
 use lib.Dec.{ltb}
 use lib.ListN.{length, drop}
+use Rattle.base.specs.Divide.{toFirst}
 use Rattle.base.specs.Join.{Word}
 
 -- words end at a space or a hyphen, or at any other byte below 64: no letter has one
@@ -22,11 +23,6 @@ firstWord (b ∷ s) = cond (isGap b) [] (b ∷ firstWord s)
 unfoldable pub afterWord : List ℕ → List ℕ
 afterWord [] = []
 afterWord (b ∷ s) = cond (isGap b) s (afterWord s)
-
--- a byte put before the first word
-abbrev pub toFirst : ℕ → List Word → List Word
-toFirst b [] = (b ∷ []) ∷ []
-toFirst b (w ∷ ws) = (b ∷ w) ∷ ws
 
 -- the words of a text
 unfoldable pub split : List ℕ → List Word
