@@ -13,4 +13,5 @@ small c = within-holds (frenchRanges (frenchSettings (c .args .feminine) (c .arg
 pub french-spec : {M : Type 1} → statement M
 french-spec =
     tie.close
-    (tie.spec (λ c. omega (arith, small c .0)) (λ c. omega (arith, small c .1 .0)) (λ c. omega (arith, small c .1 .1 .0)) (λ c. search needs))
+    (tie.spec (λ c. let w = small c in omega (arith, w .0, w .1 .0, w .1 .1 .0)) (λ c. let w = small c in omega (arith, w .0, w .1 .0, w .1 .1 .0))
+    (λ c. let w = small c in omega (arith, w .0, w .1 .0, w .1 .1 .0)) (λ c. search needs))
