@@ -21,7 +21,7 @@ use Rattle.uk_money_read.specs.Promise.{ReadMoney}
 use Rattle.uk_money_read.specs.declared.Reading.the-variants.{Refused, Amount}
 
 -- a whole part within the limit has at most 102 digits
-pub money-small : {n : ℕ} → n ≤ moneyLimit → n < 10 ^ 102
+money-small : {n : ℕ} → n ≤ moneyLimit → n < 10 ^ 102
 money-small l = lt-of-le-of-lt l (lit< tt)
 
 seen-not : {A : Type 0} (h : ℕ) → Refused ≡ Amount h → A
