@@ -6,16 +6,14 @@ use mathlib.Core.List.{List}
 use Rattle.base.specs.Answer.{Reply, refused, fitted, unless, Answers}
 use Rattle.base.specs.declared.Answer.{Answer}
 
-pub refusal : (xs : List ℕ) (n : ℕ) → Answers (record { number = n; length = 0 }) xs xs (refused n 0)
-refusal xs n = record { reported = refl; sized = refl; held = refl }
+-- a refusal
+pub refuses : {r : Answer} {xs : List ℕ} {n : ℕ} → (r .number ≡ n) × (r .length ≡ 0) → Answers r xs xs (refused n 0)
+refuses a = record { reported = a .0; sized = a .1; held = refl }
 
 -- a refusal that is not 0
 pub refused-as : (r : Answer) (xs : List ℕ) (reply : Reply) (n m : ℕ) → (r .number ≡ n) × (r .length ≡ 0) → n ≡ m → (n ≡ 0 → ⊥) → Answers r xs xs (unless m reply)
 refused-as r xs reply n zero a e z = absurd (z e)
-refused-as r xs reply n (suc m) a e z = record { reported = rw e at (a .0); sized = a .1; held = refl }
-
-pub refusal-some : (xs : List ℕ) (reply : Reply) (n m : ℕ) → n ≡ m → (n ≡ 0 → ⊥) → Answers (record { number = n; length = 0 }) xs xs (unless m reply)
-refusal-some xs reply n m e z = refused-as _ xs reply n m (refl, refl) e z
+refused-as r xs reply n (suc m) a e z = refuses (rw e at (a .0), a .1)
 
 -- bytes where there is no refusal
 pub said : (r : Answer) (xs ys b : List ℕ) (m : ℕ) → m ≡ 0 → Answers r xs ys (fitted xs b) → Answers r xs ys (unless m (fitted xs b))

@@ -9,8 +9,6 @@ use native.Mathlib.Omega.{arith}
 use borrow.Author.Tests.{ne-eqb}
 use lib.Dec.{eqb}
 use Rattle.base.specs.Decides.{Decides}
-use Rattle.base.specs.Same.{sameText}
-use Rattle.base.proofs.Same.{same-is, same-not}
 use Rattle.figures.specs.Groups.{total}
 use Rattle.figures.specs.Seen.{seenAs, seenOf, ReadOf}
 use Rattle.cardinals.specs.Cardinal.{Lexicon, cardinalWords, cardinalPhrase}
@@ -18,31 +16,25 @@ use Rattle.cardinals.specs.Grammar.{Says}
 use Rattle.cardinals.proofs.Numbers.{says, said}
 
 -- zero has no sign
-pub unsigned-zero : (L : Lexicon) (m : Bool) (n : ℕ) → cardinalPhrase L (cond (eqb n 0) false m) n ≡ cardinalPhrase L m n
+unsigned-zero : (L : Lexicon) (m : Bool) (n : ℕ) → cardinalPhrase L (cond (eqb n 0) false m) n ≡ cardinalPhrase L m n
 unfolding cardinalPhrase cardinalWords
 unsigned-zero L m zero = refl
 unsigned-zero L m (suc n) = rw (ne-eqb (suc n) 0 (λ e. omega arith)) refl
 
 module _ (L : Lexicon) (s : List ℕ) (m : Bool) (n : ℕ) (small : n < 1000 ^ L .orders) (right : (k : Bool) (l : ℕ) → Says L s k l → (m ≡ k) × (n ≡ l)) where
   -- where the guessed number's phrase is the bytes, they are a sentence with its value, and only there
-  pub stands-says : cardinalPhrase L m n ≡ s → Says L s (cond (eqb n 0) false m) n
+  stands-says : cardinalPhrase L m n ≡ s → Says L s (cond (eqb n 0) false m) n
   stands-says e = subst (λ (t : List ℕ). Says L t (cond (eqb n 0) false m) n) (unsigned-zero L m n ∙ e) (says L (cond (eqb n 0) false m) n small (λ z. rw z refl))
 
-  pub fails-says : (cardinalPhrase L m n ≡ s → ⊥) → {k : Bool} {l : ℕ} → Says L s k l → ⊥
+  fails-says : (cardinalPhrase L m n ≡ s → ⊥) → {k : Bool} {l : ℕ} → Says L s k l → ⊥
   fails-says f {k} {l} w = let p = right k l w in f (rw (p .0, p .1) (said L w .1))
-
-  pub says-once : {k k′ : Bool} {l l′ : ℕ} → Says L s k l → Says L s k′ l′ → (k ≡ k′) × (l ≡ l′)
-  says-once {k} {k′} {l} {l′} p q = let a = right k l p in let b = right k′ l′ q in (sym (a .0) ∙ b .0, sym (a .1) ∙ b .1)
-
-  pub says-decided : Dec ((k : Bool) × ((l : ℕ) × Says L s k l))
-  says-decided = go (sameText (cardinalPhrase L m n) s) refl
-    where
-      go : (t : Bool) → sameText (cardinalPhrase L m n) s ≡ t → Dec ((k : Bool) × ((l : ℕ) × Says L s k l))
-      go true e = yes (cond (eqb n 0) false m, (n, stands-says (same-is (cardinalPhrase L m n) s e)))
-      go false e = no (λ p. fails-says (same-not (cardinalPhrase L m n) s e) (p .1 .1))
 
   pub read : (b z : Bool) (gs : List ℕ) → total gs ≡ n → z ≡ eqb n 0 → Decides b (cardinalPhrase L m n ≡ s) → ReadOf (Says L s) (seenOf b z m) gs
   read true z gs g e d =
       let w : Says L s (cond z false m) n = rw e (stands-says (d .holds refl)) in
-      record { reads = λ k l y. let u = says-once w y in (ap seenAs (u .0), g ∙ u .1); refuses = λ f. absurd (f (cond z false m) n w) }
+      let a = right (cond z false m) n w in
+      record {
+        reads = λ k l y. let u = right k l y in (ap seenAs (sym (a .0) ∙ u .0), g ∙ u .1);
+        refuses = λ f. absurd (f (cond z false m) n w);
+      }
   read false z gs g e d = record { reads = λ k l y. absurd (fails-says (d .fails refl) y); refuses = λ f. refl }

@@ -1,82 +1,110 @@
--- Demand 3 for cardinals, in any language of at most 34 orders: from a guess that is right wherever the bytes are a sentence.
+-- Demand 3: of any kind with a guess that is right wherever bytes are a sentence; so of the kinds whose values are number texts, by their grammars; so
+-- of cardinals in any language.
 -- Assumes nothing.
 use Prim.Native.Nat.{ℕ, _*_, _^_, _≤_, _<_}
 use mathlib.Core.Path.{_≡_, refl, sym, _∙_, subst}
-use mathlib.Core.Bool.{Bool, true, false}
+use mathlib.Core.Bool.{Bool, true, false, not}
 use mathlib.Core.List.{List}
+use native.Mathlib.Decide.{ℕ-discrete}
 use native.Mathlib.Nat.{lt-of-lt-of-le, pow-le-pow-right}
 use native.Mathlib.Omega.{arith}
+use lib.Dec.{ltb}
 use lib.ListN.{length}
 use Rattle.base.specs.Claim.{Readable}
+use Rattle.base.specs.Same.{sameText}
+use Rattle.base.proofs.Same.{same-is, same-not}
 use Rattle.figures.specs.Text.{value, negative, unsigned, wellFormed}
-use Rattle.figures.specs.Refusals.{cardinalRefusals, Admitted}
+use Rattle.figures.specs.Judging.{judged}
 use Rattle.figures.specs.Value.{NumberMeans}
 use Rattle.figures.specs.Written.{signedDecimal}
 use Rattle.figures.proofs.Laws.Digits.{thousand}
 use Rattle.figures.proofs.Laws.Groups.{hold}
 use Rattle.figures.proofs.Laws.Plain.{plain-digits}
-use Rattle.figures.proofs.Laws.Refusals.{Passed, passed, none-refused}
-use Rattle.figures.proofs.Laws.Sign.{formed-unsigned, zero-plain, number-text, number-size, number-is}
+use Rattle.figures.proofs.Laws.Refusals.{passed, none-refused}
+use Rattle.figures.proofs.Laws.Sign.{formed-unsigned, zero-plain, number-size, number-is}
 use Rattle.cardinals.specs.Cardinal.{Lexicon, cardinalPhrase}
 use Rattle.cardinals.specs.Grammar.{Says}
 use Rattle.cardinals.proofs.Numbers.{says, said}
-use Rattle.cardinals.proofs.Guessed.{says-once, says-decided}
 
--- an admitted text is well formed and within its limit, and only such a text
-pub admits : (most : ℕ) (t : List ℕ) → Admitted (cardinalRefusals most t) → Passed (wellFormed t) false (length (unsigned t)) most
-admits most t a = passed (wellFormed t) false (length (unsigned t)) most a
+-- a kind whose phrases have their texts as values, and whose values are spelled as their sentences
+module _ (Admitted : List ℕ → Type 0) (phrase : List ℕ → List ℕ) (Means : List ℕ → List ℕ → Type 0) (admitted : (t : List ℕ) → Dec (Admitted t))
+    (spelled : (t : List ℕ) → Admitted t → Means (phrase t) t) (means : (s t : List ℕ) → Means s t → Admitted t × (phrase t ≡ s)) where
+  -- of any text it is decided whether it is the value of some bytes
+  pub means-decided : (s t : List ℕ) → Dec (Means s t)
+  means-decided s t = go (admitted t) (sameText (phrase t) s) refl
+    where
+      go : Dec (Admitted t) → (b : Bool) → sameText (phrase t) s ≡ b → Dec (Means s t)
+      go (no f) b e = no (λ m. f (means s t m .0))
+      go (yes a) false e = no (λ m. same-not (phrase t) s e (means s t m .1))
+      go (yes a) true e = yes (subst (λ (x : List ℕ). Means x t) (same-is (phrase t) s e) (spelled t a))
 
-admitted : (most : ℕ) (t : List ℕ) → wellFormed t ≡ true → length (unsigned t) ≤ most → Admitted (cardinalRefusals most t)
-admitted most t f l = none-refused {f = wellFormed t} {r = false} (record { formed = f; sign = refl; within = l })
+  -- where no phrase has two values, no two texts have one phrase
+  pub inverse : ((s t u : List ℕ) → Means s t → Means s u → t ≡ u) → ((s : List ℕ) → Dec ((t : List ℕ) × Means s t)) → Readable Admitted phrase Means
+  inverse one decided = record {
+    spelled = spelled;
+    value = means;
+    oneText = λ t u a b e. one (phrase u) t u (subst (λ (s : List ℕ). Means s t) e (spelled t a)) (spelled u b);
+    oneValue = one;
+    decided = decided;
+  }
 
-module _ (L : Lexicon) (some : 0 < L .orders) (few : L .orders ≤ 34) where
-  abbrev Means : List ℕ → List ℕ → Type 0
-  Means s t = NumberMeans (Says L s) t
+  -- a guess that is the value of the bytes wherever they are a sentence
+  pub guessed : (guess : List ℕ → List ℕ) → ((s t : List ℕ) → Means s t → t ≡ guess s) → Readable Admitted phrase Means
+  guessed guess right = inverse (λ s t u p q. right s t p ∙ sym (right s u q)) (λ s. go s (means-decided s (guess s)))
+    where
+      go : (s : List ℕ) → Dec (Means s (guess s)) → Dec ((t : List ℕ) × Means s t)
+      go s (yes m) = yes (guess s, m)
+      go s (no f) = no (λ p. f (subst (Means s) (right s (p .0) (p .1)) (p .1)))
 
-  abbrev phraseOf : List ℕ → List ℕ
-  phraseOf t = cardinalPhrase L (negative t) (value (unsigned t))
+-- a grammar of the numbers below 1000 to the orders, each with one phrase; some signs may be refused
+pub record OnePhrase (Says : List ℕ → Bool → ℕ → Type 0) (phrase : Bool → ℕ → List ℕ) (isRefused : Bool → Bool) (orders : ℕ) : Type 0 where
+  pub says : (m : Bool) (n : ℕ) → n < 1000 ^ orders → (n ≡ 0 → m ≡ false) → isRefused m ≡ false → Says (phrase m n) m n
+  pub small : {s : List ℕ} {m : Bool} {n : ℕ} → Says s m n → n < 1000 ^ orders
+  pub phrased : {s : List ℕ} {m : Bool} {n : ℕ} → Says s m n → phrase m n ≡ s
+  pub signed : {s : List ℕ} {m : Bool} {n : ℕ} → Says s m n → isRefused m ≡ false
 
+module _ {Says : List ℕ → Bool → ℕ → Type 0} {phrase : Bool → ℕ → List ℕ} {isRefused : Bool → Bool} {orders : ℕ} (G : OnePhrase Says phrase isRefused orders)
+    (some : 0 < orders) (few : orders ≤ 34) where
   -- a sentence's number has at most 102 digits
-  pub few-digits : {n : ℕ} → n < 1000 ^ L .orders → n < 10 ^ 102
-  few-digits h = lt-of-lt-of-le h (rw (← thousand (L .orders)) (pow-le-pow-right {n = 10} (omega arith) {i = L .orders * 3} {j = 102} (omega arith)))
+  pub few-digits : {s : List ℕ} {m : Bool} {n : ℕ} → Says s m n → n < 10 ^ 102
+  few-digits w = lt-of-lt-of-le (G .small w) (rw (← thousand orders) (pow-le-pow-right {n = 10} (omega arith) {i = orders * 3} {j = 102} (omega arith)))
 
-  spelled-means : (t : List ℕ) → Admitted (cardinalRefusals (L .orders * 3) t) → NumberMeans (Says L (phraseOf t)) t
+  abbrev AdmittedText : List ℕ → Type 0
+  AdmittedText t = judged (not (wellFormed t)) (isRefused (negative t)) (ltb (orders * 3) (length (unsigned t))) ≡ 0
+
+  abbrev textPhrase : List ℕ → List ℕ
+  textPhrase t = phrase (negative t) (value (unsigned t))
+
+  spelled-means : (t : List ℕ) → AdmittedText t → NumberMeans (Says (textPhrase t)) t
   spelled-means t a =
-      let p = admits (L .orders * 3) t a in
+      let p = passed (wellFormed t) (isRefused (negative t)) (length (unsigned t)) (orders * 3) a in
+      let h = hold orders (unsigned t) (plain-digits (unsigned t) (formed-unsigned t (p .formed))) (p .within) in
       record {
         minus = negative t;
         magnitude = value (unsigned t);
-        says = says L (negative t) (value (unsigned t)) (hold (L .orders) (unsigned t) (plain-digits (unsigned t) (formed-unsigned t (p .formed))) (p .within)) (zero-plain t (p .formed));
+        says = G .says (negative t) (value (unsigned t)) h (zero-plain t (p .formed)) (p .sign);
         valued = record { formed = p .formed; sign = refl; means = refl };
       }
 
-  means-spelled : (s t : List ℕ) → Means s t → Admitted (cardinalRefusals (L .orders * 3) t) × (phraseOf t ≡ s)
+  means-spelled : (s t : List ℕ) → NumberMeans (Says s) t → AdmittedText t × (textPhrase t ≡ s)
   means-spelled s t m =
-      let w = said L (m .says) in
-      let x = m .valued in (
-        admitted (L .orders * 3) t (x .formed) (number-size x (L .orders * 3) (omega arith) (rw (thousand (L .orders)) (w .0))),
-        rw (x .means, x .sign) (w .1),
-      )
+      let x = m .valued in
+      let f : isRefused (negative t) ≡ false = rw (x .sign) (G .signed (m .says)) in
+      let l = number-size x (orders * 3) (omega arith) (rw (thousand orders) (G .small (m .says))) in
+      (none-refused (record { formed = x .formed; sign = f; within = l }), rw (x .means, x .sign) (G .phrased (m .says)))
 
-  module _ (sign : List ℕ → Bool) (number : List ℕ → ℕ) (small : (s : List ℕ) → number s < 1000 ^ L .orders)
-      (right : (s : List ℕ) (k : Bool) (l : ℕ) → Says L s k l → (sign s ≡ k) × (number s ≡ l)) where
-    one-value : (s t u : List ℕ) → Means s t → Means s u → t ≡ u
-    one-value s t u p q =
-        let e = says-once L s (sign s) (number s) (small s) (right s) (p .says) (q .says) in
-        number-is (p .valued) (few-digits (said L (p .says) .0)) ∙ rw (e .0, e .1) (sym (number-is (q .valued) (few-digits (said L (q .says) .0))))
+  pub readable : (sign : List ℕ → Bool) (number : List ℕ → ℕ) → ((s : List ℕ) (k : Bool) (l : ℕ) → Says s k l → (sign s ≡ k) × (number s ≡ l))
+      → Readable (λ (t : List ℕ). judged (not (wellFormed t)) (isRefused (negative t)) (ltb (orders * 3) (length (unsigned t))) ≡ 0)
+      (λ (t : List ℕ). phrase (negative t) (value (unsigned t))) (λ (s t : List ℕ). NumberMeans (Says s) t)
+  readable sign number right =
+      guessed AdmittedText textPhrase (λ s t. NumberMeans (Says s) t) (λ t. ℕ-discrete _ 0) spelled-means means-spelled (λ s. signedDecimal (sign s) (number s))
+      (λ s t m. let e = right s (m .minus) (m .magnitude) (m .says) in rw (e .0, e .1) (number-is (m .valued) (few-digits (m .says))))
 
-    decided : (s : List ℕ) → Dec ((k : Bool) × ((n : ℕ) × Says L s k n)) → Dec ((t : List ℕ) × Means s t)
-    decided s (yes p) =
-        let w = said L (p .1 .1) in
-        yes (signedDecimal (p .0) (p .1 .0), record { minus = p .0; magnitude = p .1 .0; says = p .1 .1; valued = number-text (p .0) (p .1 .0) (few-digits (w .0)) (w .2) })
-    decided s (no f) = no (λ p. f (p .1 .minus, (p .1 .magnitude, p .1 .says)))
-
-    pub readable : Readable (λ (t : List ℕ). Admitted (cardinalRefusals (L .orders * 3) t)) (λ (t : List ℕ). cardinalPhrase L (negative t) (value (unsigned t)))
-        (λ (s t : List ℕ). NumberMeans (Says L s) t)
-    readable = record {
-      spelled = spelled-means;
-      value = means-spelled;
-      oneText = λ t u a b e. one-value (phraseOf u) t u (subst (λ (s : List ℕ). Means s t) e (spelled-means t a)) (spelled-means u b);
-      oneValue = one-value;
-      decided = λ s. decided s (says-decided L s (sign s) (number s) (small s) (right s));
-    }
+-- cardinals, of which no sign is refused
+pub cardinals : (L : Lexicon) → OnePhrase (Says L) (cardinalPhrase L) (λ m. false) (L .orders)
+cardinals L = record {
+  says = λ m n h z f. says L m n h z;
+  small = λ w. said L w .0;
+  phrased = λ w. said L w .1;
+  signed = λ w. refl;
+}

@@ -7,24 +7,25 @@ use mathlib.Core.List.{List}
 use native.Mathlib.Omega.{arith}
 use lib.ListN.{length}
 use Rattle.figures.specs.Groups.{groupsOf, total, Groups}
-use Rattle.figures.specs.Text.{digits, value}
+use Rattle.figures.specs.Text.{plain, value}
 use Rattle.figures.proofs.Laws.Groups.{groups-length, groups-below, total-groups, hold}
-use Rattle.groups.specs.Highest.{ZeroFrom}
-use Rattle.groups.proofs.Highest.{counted-zeros}
+use Rattle.figures.proofs.Laws.Plain.{plain-digits}
+use Rattle.groups.specs.Highest.{Highest}
+use Rattle.groups.proofs.Highest.{counted}
 
--- gs are the k lowest groups of the digits s, and all of them; those from n on are 0
+-- gs are the k lowest groups of the digits s, and all of them; n orders hold those that are not 0
 pub record Held (k : ℕ) (s gs : List ℕ) (n : ℕ) : Type 0 where
   pub below : Groups gs
   pub size : length gs ≡ k
   pub number : total gs ≡ value s
   pub few : n ≤ k
-  pub zeros : ZeroFrom gs n
+  pub top : Highest gs n
 
-pub held : (k : ℕ) (s gs : List ℕ) (n : ℕ) → digits s ≡ true → length s ≤ k * 3 → gs ≡ groupsOf k (value s) → n ≡ (length s + 2) / 3 → Held k s gs n
-held k s gs n d l e c = record {
+pub held : (k : ℕ) (s gs : List ℕ) (n : ℕ) → plain s ≡ true → length s ≤ k * 3 → gs ≡ groupsOf k (value s) → n ≡ (length s + 2) / 3 → Held k s gs n
+held k s gs n p l e c = record {
   below = rw e (groups-below k (value s));
   size = rw e (groups-length k (value s));
-  number = rw e (total-groups k (value s) (hold k s d l));
+  number = rw e (total-groups k (value s) (hold k s (plain-digits s p) l));
   few = omega arith;
-  zeros = rw (e, c) (counted-zeros s d k);
+  top = rw (e, c) (counted s p k (omega arith));
 }

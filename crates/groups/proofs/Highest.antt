@@ -10,10 +10,10 @@ use mathlib.Core.List.{List, [], _∷_, _++_}
 use mathlib.Core.Path.{_≡_, refl, sym, _∙_}
 use borrow.Author.Tests.{eq-eqb, ne-eqb}
 use lib.Dec.{eqb}
-use lib.ListN.{length, getD, take, drop, set, replicate, length-append, List·getD-eq-default}
-use lib.Seq.{drop-cons, getD-set-other}
+use lib.ListN.{length, getD, take, drop, replicate, length-append, List·getD-eq-default}
+use lib.Seq.{drop-cons}
 use Rattle.figures.specs.Groups.{groupsOf, total, Groups}
-use Rattle.figures.specs.Text.{digits, plain, value}
+use Rattle.figures.specs.Text.{plain, value}
 use Rattle.figures.proofs.Laws.Digits.{thousand}
 use Rattle.figures.proofs.Laws.Plain.{plain-digits, plain-least}
 use Rattle.figures.proofs.Laws.Text.{lead-zero}
@@ -49,14 +49,11 @@ module _ (n o : ℕ) (s : (i : ℕ) → i < o → n / 1000 ^ i ≡ 0 → ⊥) wh
         s (o - 1) (omega arith) (omega (arith, r, sym (groups-at k n (o - 1) (omega arith)) ∙ e));
   }
 
--- the text's digits tell its orders; of any digits, those that are 0
-pub counted-zeros : (s : List ℕ) → digits s ≡ true → (k : ℕ) → ZeroFrom (groupsOf k (value s)) ((length s + 2) / 3)
-counted-zeros s d k = small-zeros (value s) ((length s + 2) / 3) k (hold ((length s + 2) / 3) s d (omega arith))
-
+-- the text's digits tell its orders
 pub counted : (s : List ℕ) → plain s ≡ true → (k : ℕ) → (length s + 2) / 3 ≤ k → Highest (groupsOf k (value s)) ((length s + 2) / 3)
 counted s p k h = record {
   within = rw groups-length h;
-  zeros = counted-zeros s (plain-digits s p) k;
+  zeros = small-zeros (value s) ((length s + 2) / 3) k (hold ((length s + 2) / 3) s (plain-digits s p) (omega arith));
   some = λ l e. most s p ((length s + 2) / 3 - 1) (omega arith) (omega arith) (omega arith) (sym (groups-at k (value s) ((length s + 2) / 3 - 1) (omega arith)) ∙ e);
 }
   where
@@ -135,10 +132,6 @@ module _ (gs : List ℕ) (n k : ℕ) (t : Highest gs n) where
       first : (gs : List ℕ) → total (take 1 gs) ≡ getD gs 0 0
       first [] = refl
       first (g ∷ gs) = omega arith
-
--- groups that a store leaves 0 above stay so
-pub set-zeros : (gs : List ℕ) (n i v : ℕ) → i < n → ZeroFrom gs n → ZeroFrom (set gs i v) n
-set-zeros gs n i v h z j l = getD-set-other gs i j v 0 (λ e. omega arith) ∙ z j l
 
 -- the groups from an order on: one of them, and the others
 pub total-from : (gs : List ℕ) (i : ℕ) → i < length gs → total (drop i gs) ≡ getD gs i 0 + 1000 * total (drop (i + 1) gs)

@@ -22,9 +22,14 @@ within-true [] w = refl
 within-true (r ∷ rs) w = rw (lt-ltb (r .0) (r .1) (w .0), within-true rs (w .1)) refl
 
 -- a call of which nothing is refused has its settings in their ranges, and none of the conditions behind that holds
-pub unrefused : (rs : List (ℕ × ℕ)) (cs : List (Bool × ℕ)) → firstOf (outOfRange rs ∷ cs) ≡ 0 → (within rs ≡ true) × (firstOf cs ≡ 0)
-unrefused rs cs e = go (within rs) e
+pub record Unrefused (rs : List (ℕ × ℕ)) (cs : List (Bool × ℕ)) : Type 0 where
+  pub test : within rs ≡ true
+  pub settings : Within rs
+  pub others : firstOf cs ≡ 0
+
+pub unrefused : {rs : List (ℕ × ℕ)} {cs : List (Bool × ℕ)} → firstOf (outOfRange rs ∷ cs) ≡ 0 → Unrefused rs cs
+unrefused {rs} {cs} e = go (within rs) refl e
   where
-    go : (b : Bool) → cond (not b) 1 (firstOf cs) ≡ 0 → (b ≡ true) × (firstOf cs ≡ 0)
-    go true e = (refl, e)
-    go false e = absurd (omega arith)
+    go : (b : Bool) → within rs ≡ b → cond (not b) 1 (firstOf cs) ≡ 0 → Unrefused rs cs
+    go true t e = record { test = t; settings = within-holds rs t; others = e }
+    go false t e = absurd (omega arith)

@@ -11,7 +11,6 @@ use Rattle.figures.specs.Text.{digits, plain, value, negative, unsigned, wellFo
 use Rattle.figures.specs.Money.{pointed, wholeText, hundredthsText, moneyFormed, wholeOf, moneyLimit}
 use Rattle.figures.specs.Refusals.{amountRefusals, Admitted}
 use Rattle.figures.proofs.Laws.Digits.{value-lt}
-use Rattle.figures.proofs.Laws.Plain.{plain-digits}
 use Rattle.figures.proofs.Laws.Sign.{plain-size}
 use Rattle.figures.proofs.Laws.Money.{hundredths-size, money-pointed, whole-plain}
 use Rattle.figures.proofs.Laws.Refusals.{Passed, passed}
@@ -34,21 +33,21 @@ module _ (t : List ℕ) (a : Admitted (amountRefusals t)) where
       go true = negative-take (length t - 3) t (admits t a .sign)
       go false = admits t a .sign
 
-  pub whole-digits : digits (unsigned (wholeText t)) ≡ true
-  whole-digits = plain-digits (unsigned (wholeText t)) (whole-plain t formed)
+  pub plain-whole : plain (unsigned (wholeText t)) ≡ true
+  plain-whole = whole-plain t formed
 
   pub whole-formed : wellFormed (wholeText t) ≡ true
-  whole-formed = formed-plain (wholeText t) (whole-plain t formed) whole-sign
+  whole-formed = formed-plain (wholeText t) plain-whole whole-sign
 
   -- within the limit there are at most 20 digits
   pub whole-few : length (unsigned (wholeText t)) ≤ 20
-  whole-few = plain-size (unsigned (wholeText t)) 20 (whole-plain t formed) (omega arith) (omega (arith, admits t a .within))
+  whole-few = plain-size (unsigned (wholeText t)) 20 plain-whole (omega arith) (omega (arith, admits t a .within))
 
   pub hundredths-digits : digits (hundredthsText t) ≡ true
   hundredths-digits = go (pointed t) refl
     where
       go : (b : Bool) → pointed t ≡ b → digits (hundredthsText t) ≡ true
-      go true e = and-eq-true-iff (digits (hundredthsText t)) (not (eqb (value (hundredthsText t)) 0)) .0 (sym (money-pointed t e (whole-plain t formed)) ∙ formed) .0
+      go true e = and-eq-true-iff (digits (hundredthsText t)) (not (eqb (value (hundredthsText t)) 0)) .0 (sym (money-pointed t e plain-whole) ∙ formed) .0
       go false e = rw e refl
 
   pub hundredths-small : value (hundredthsText t) < 100

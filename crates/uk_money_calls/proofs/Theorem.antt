@@ -4,26 +4,30 @@ use Prim.Native.Nat.{ℕ, _<_}
 use mathlib.Core.Path.{_≡_, refl, sym, _∙_, subst}
 use mathlib.Core.List.{List}
 use mathlib.Core.Option.{Option, some}
+use native.Mathlib.Decide.{ℕ-discrete}
+use lib.ListN.{getD}
 use Rattle.base.specs.Claim.{Readable}
 use Rattle.settings.specs.Settings.{ukrainianRanges, Within}
 use Rattle.settings.specs.declared.Settings.{Settings}
 use Rattle.figures.specs.Text.{negative}
+use Rattle.figures.specs.Groups.{total}
 use Rattle.figures.specs.Money.{moneyFormed, wholeOf, hundredthsOf, moneyLimit}
 use Rattle.figures.specs.Refusals.{amountRefusals, Admitted}
 use Rattle.figures.specs.Written.{moneyDecimal}
 use Rattle.figures.proofs.Laws.Refusals.{none-refused}
-use Rattle.figures.proofs.Laws.Round.{amount-text, amount-is}
+use Rattle.figures.proofs.Laws.Round.{amount-is}
+use Rattle.tokens.specs.Tokens.{split}
+use Rattle.cardinals.proofs.Inverse.{means-decided, inverse}
+use Rattle.uk_read.specs.Reading.{sums, left}
 use Rattle.uk_money.specs.Currencies.{Currency}
 use Rattle.uk_money.specs.Codes.{currencyOf}
-use Rattle.uk_money.specs.MoneyGrammar.{SaysMoney}
 use Rattle.uk_money.specs.Rows.{currencyAt, codePlace}
 use Rattle.uk_money.proofs.Amounts.{amount-says, amount-said}
 use Rattle.uk_money.proofs.Coded.{coded}
-use Rattle.uk_money_read.proofs.Made.{says-once}
-use Rattle.uk_money_read.proofs.Decided.{says-decided}
+use Rattle.uk_money_read.specs.Behind.{behind}
+use Rattle.uk_money_read.proofs.Made.{says-once, Guessed, plainly, alone, guessed}
 use Rattle.uk_money_calls.specs.MoneyCalls.{ukToCurrency, moneyPhrase, MoneyMeans}
 use Rattle.uk_money_calls.proofs.Texts.{admits, hundredths-small}
-use Rattle.uk_money_calls.proofs.Entries.{money-small}
 
 module _ (S : Settings) (c : Currency) where
   spelled-means : (t : List ℕ) → Admitted (amountRefusals t) → MoneyMeans S (some c) (moneyPhrase S (some c) t) t
@@ -54,24 +58,32 @@ module _ (S : Settings) (w : Within (ukrainianRanges S)) (i : ℕ) (hi : i < 44)
       let e = says-once S w i hi s (p .says) (q .says) in
       amount-is (p .valued) (amount-said S (currencyAt i) (p .says) .0) ∙ rw (e .0, e .1) (sym (amount-is (q .valued) (amount-said S (currencyAt i) (q .says) .0)))
 
+  -- of a text it is decided whether it is the value of some bytes; the reader tries two
+  decides : (s t : List ℕ) → Dec (Means s t)
+  decides = means-decided (λ t. Admitted (amountRefusals t)) (moneyPhrase S (some (currencyAt i))) Means (λ t. ℕ-discrete _ 0) (spelled-means S (currencyAt i)) (means-spelled S (currencyAt i))
+
   decided : (s : List ℕ) → Dec ((t : List ℕ) × Means s t)
-  decided s = go (says-decided S w i hi s)
+  decided s = go (decides s first) (decides s second)
     where
-      go : Dec ((n : ℕ) × ((h : ℕ) × SaysMoney S (currencyAt i) s n h)) → Dec ((t : List ℕ) × Means s t)
-      go (yes p) =
-          let l = amount-said S (currencyAt i) (p .1 .1) in
-          yes (moneyDecimal (p .0) (p .1 .0), record { units = p .0; hundredths = p .1 .0; says = p .1 .1; valued = amount-text (p .0) (p .1 .0) (money-small (l .0)) (l .1) })
-      go (no f) = no (λ p. f (p .1 .units, (p .1 .hundredths, p .1 .says)))
+      first : List ℕ
+      first = moneyDecimal (total (sums 22 (split s))) (getD (sums 22 (behind (left 22 (split s)))) 0 0)
+
+      second : List ℕ
+      second = moneyDecimal 0 (getD (sums 22 (split s)) 0 0)
+
+      neither : {n h : ℕ} → (Means s first → ⊥) → (Means s second → ⊥) → Means s (moneyDecimal n h) → Guessed s n h → ⊥
+      neither f g m (plainly p q) = f (rw (p, q) m)
+      neither f g m (alone q) = g (rw q m)
+
+      go : Dec (Means s first) → Dec (Means s second) → Dec ((t : List ℕ) × Means s t)
+      go (yes m) d = yes (first, m)
+      go (no f) (yes m) = yes (second, m)
+      go (no f) (no g) = no (λ p.
+          let m = p .1 in
+          neither f g (subst (Means s) (amount-is (m .valued) (amount-said S (currencyAt i) (m .says) .0)) m) (guessed S w i hi s (m .says)))
 
   one-readable : Readable (λ (t : List ℕ). Admitted (amountRefusals t)) (λ (t : List ℕ). moneyPhrase S (some (currencyAt i)) t) Means
-  one-readable = record {
-    spelled = spelled-means S (currencyAt i);
-    value = means-spelled S (currencyAt i);
-    oneText = λ t u a b e.
-        one-value (moneyPhrase S (some (currencyAt i)) u) t u (subst (λ (s : List ℕ). Means s t) e (spelled-means S (currencyAt i) t a)) (spelled-means S (currencyAt i) u b);
-    oneValue = one-value;
-    decided = decided;
-  }
+  one-readable = inverse (λ t. Admitted (amountRefusals t)) (moneyPhrase S (some (currencyAt i))) Means (λ t. ℕ-discrete _ 0) (spelled-means S (currencyAt i)) (means-spelled S (currencyAt i)) one-value decided
 
 pub readable : (S : Settings) (code : List ℕ) (c : Currency) → Within (ukrainianRanges S) → currencyOf code ≡ some c
     → Readable (λ (t : List ℕ). Admitted (amountRefusals t)) (λ (t : List ℕ). ukToCurrency S code t .phrase) (MoneyMeans S (currencyOf code))

@@ -4,4 +4,3 @@ pub mod Quiet
 pub mod Found
 pub mod Made
 pub mod Answers
-pub mod Decided

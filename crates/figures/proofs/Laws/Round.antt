@@ -1,7 +1,7 @@
--- There and back: a text to its groups to the text, groups to their text to the groups, a money text to its parts to the text.
+-- There and back: a money text to its parts to the text.
 -- Assumes nothing.
-use Prim.Native.Nat.{ℕ, zero, suc, _+_, _-_, _*_, _^_, _≤_, _<_}
-use native.Mathlib.Nat.{lt-of-lt-of-le, pow-le-pow-right, mod-eq-of-lt}
+use Prim.Native.Nat.{ℕ, zero, suc, _+_, _-_, _^_, _≤_, _<_}
+use native.Mathlib.Nat.{mod-eq-of-lt}
 use native.Mathlib.Omega.{arith}
 use mathlib.Core.Bool.{Bool, true, false, not, and-eq-true-iff}
 use mathlib.Core.List.{List, [], _∷_, _++_, append-nil}
@@ -10,41 +10,15 @@ use lib.Dec.{leb, eqb}
 use lib.ListN.{length, getD, take, drop, length-take, length-append}
 use lib.Seq.{split-at, getD-append-seam, take-append-seam, drop-append-add}
 use borrow.Author.Tests.{eqb-true, eqb-false, not-true, le-leb}
-use Rattle.figures.specs.Groups.{groupsOf, total, Groups}
 use Rattle.figures.specs.Money.{pointed, wholeText, hundredthsText, areHundredths, moneyFormed, moneyLimit}
 use Rattle.figures.specs.Value.{IsAmount}
-use Rattle.figures.specs.Written.{moneyDecimal}
-use Rattle.figures.specs.Text.{digits, plain, value, wellFormed, negative, unsigned}
-use Rattle.figures.specs.Written.{decimal, fixed, signedDecimal}
+use Rattle.figures.specs.Text.{digits, plain, value, negative, unsigned}
+use Rattle.figures.specs.Written.{decimal, fixed, moneyDecimal}
 use Rattle.figures.proofs.Laws.Digits.{and-both}
-use Rattle.figures.proofs.Laws.Groups.{total-groups, groups-total, total-lt, hold}
 use Rattle.figures.proofs.Laws.Money.{digits-whole, money-none, pointed-size, hundredths-size, money-plain, money-pointed, money-some, whole-plain}
 use Rattle.figures.proofs.Laws.Plain.{plain-digits}
-use Rattle.figures.proofs.Laws.Sign.{digits-unsigned, unsigned-plain, signed-is, formed-unsigned, plain-size}
+use Rattle.figures.proofs.Laws.Sign.{digits-unsigned, unsigned-plain, formed-unsigned, plain-size}
 use Rattle.figures.proofs.Laws.Text.{value-fixed, fixed-digits, plain-text, fixed-value, text-value, value-text}
-
--- text to groups to text: k groups, at most 34
-pub text-round : (k : ℕ) (xs : List ℕ) → k ≤ 34 → wellFormed xs ≡ true → length (unsigned xs) ≤ k * 3 →
-    signedDecimal (negative xs) (total (groupsOf k (value (unsigned xs)))) ≡ xs
-text-round k xs m f h =
-    let p : plain (unsigned xs) ≡ true = formed-unsigned xs f in
-    rw (
-      total-groups k (value (unsigned xs)) (hold k (unsigned xs) (plain-digits (unsigned xs) p) h),
-      text-value (unsigned xs) p (omega arith),
-    )
-    (signed-is xs (negative xs) refl)
-
--- groups to text to groups
-pub groups-round : (gs : List ℕ) → Groups gs → length gs ≤ 34 → groupsOf (length gs) (value (decimal (total gs))) ≡ gs
-groups-round gs g m =
-    let h : total gs < 10 ^ 102 = lt-of-lt-of-le (total-lt gs g) (pow-le-pow-right {n = 1000} (omega arith) {i = length gs} {j = 34} m) in
-    rw (value-text (total gs) h) (groups-total gs g)
-
--- two texts with the same groups and the same sign are the same
-pub same-groups : (k : ℕ) (xs ys : List ℕ) → k ≤ 34 → wellFormed xs ≡ true → wellFormed ys ≡ true → length (unsigned xs) ≤ k * 3 → length (unsigned ys) ≤ k * 3 →
-    negative xs ≡ negative ys → groupsOf k (value (unsigned xs)) ≡ groupsOf k (value (unsigned ys)) → xs ≡ ys
-same-groups k xs ys m f g h j n e =
-    sym (text-round k xs m f h) ∙ rw (n, e) (text-round k ys m g j)
 
 -- a text is what stands before its '.', the '.', and what stands after
 pointed-is : (xs : List ℕ) → pointed xs ≡ true → take (length xs - 3) xs ++ (46 ∷ drop (length xs - 2) xs) ≡ xs

@@ -1,6 +1,6 @@
 -- Texts with a sign.
 -- Assumes nothing.
-use Prim.Native.Nat.{ℕ, zero, suc, _+_, _^_, _≤_, _<_}
+use Prim.Native.Nat.{ℕ, suc, _+_, _^_, _≤_, _<_}
 use native.Mathlib.Nat.{pow-le-pow-right}
 use native.Mathlib.Numerals.{add-one}
 use native.Mathlib.Omega.{arith}
@@ -12,7 +12,6 @@ use lib.ListN.{length, getD, drop}
 use borrow.Author.Tests.{leb-true, leb-false, eqb-true, eq-eqb, ne-eqb, not-true}
 use Rattle.figures.specs.Text.{digits, plain, value, wellFormed, negative, unsigned}
 use Rattle.figures.specs.Written.{decimal, signedDecimal}
-use Rattle.tables.proofs.Tests.{clash-of}
 use Rattle.figures.specs.Value.{IsNumber}
 use Rattle.figures.proofs.Laws.Digits.{and-both, digit-low, digits-head}
 use Rattle.figures.proofs.Laws.Plain.{plain-digits, plain-least, plain-first}
@@ -127,11 +126,3 @@ module _ {minus : Bool} {n : ℕ} {t : List ℕ} (x : IsNumber minus n t) where
   number-is h =
       let e : decimal n ≡ unsigned t = ap decimal (sym (x .means)) ∙ text-value (unsigned t) (formed-unsigned t (x .formed)) (number-size 102 (omega arith) h) in
       sym (ap (λ (l : List ℕ). cond minus (45 ∷ l) l) e ∙ signed-is t minus (x .sign))
-
-  -- only a number above 0 has a sign
-  pub number-sign : minus ≡ true → 0 < n
-  number-sign e = go n refl
-    where
-      go : (k : ℕ) → n ≡ k → 0 < n
-      go zero z = let f : negative t ≡ false = zero-plain t (x .formed) (x .means ∙ z) in clash-of (sym f ∙ x .sign ∙ e)
-      go (suc k) z = omega arith

@@ -2,24 +2,16 @@
 -- Assumes nothing.
 use borrow.Author.Needs.{needs}
 use mathlib.Core.Path.{sym, _∙_}
+use Rattle.base.proofs.Replies.{refuses}
 use Rattle.settings.specs.Settings.{frenchSettings, frenchRanges}
 use Rattle.settings.proofs.Ranges.{within-holds}
-use Rattle.fr_calls.specs.FrCalls.{FrCardinalMeans}
-use Rattle.fr_calls.proofs.Answers.{refuses, reads-settled, reads-unsettled}
 use Rattle.fr_calls.proofs.from_cardinal.Statement.{statement}
 use Rattle.fr_calls.proofs.from_cardinal.Tie as tie
 
 returns : tie.Need-returns
 returns c =
-    let a = c .before .before .before .before .before .before .before .before .before .args in
-    let S = frenchSettings (a .feminine) (a .reformed) (a .region) in
-    reads-settled (frenchRanges S) (FrCardinalMeans S) (a .said .now) _ (a .out .now) _ (sym (c .before .before .before .before .before .before .is-french .ensures) ∙ c .before .before .before .before .before .if1 .taken) (rw (c .before .before .before .before .french .ensures) at (c .before .before .read-cardinal .ensures))
-
-returns-2 : tie.Need-returns-2
-returns-2 c =
-    let a = c .before .before .before .before .before .args in
-    let S = frenchSettings (a .feminine) (a .reformed) (a .region) in
-    reads-unsettled (frenchRanges S) (FrCardinalMeans S) (a .said .now) _ (a .out .now) _ (sym (c .before .before .is-french .ensures) ∙ c .before .if1 .left) (refuses _ (a .out .now) 1 (c .refused .ensures))
+    rw (sym (c .before .before .before .before .before .before .is-french .ensures) ∙ c .before .before .before .before .before .if1 .taken)
+    (rw (c .before .before .before .before .french .ensures) at (c .before .before .read-cardinal .ensures))
 
 pub from-cardinal-spec : {M : Type 1} → statement M
 from-cardinal-spec =
@@ -31,4 +23,4 @@ from-cardinal-spec =
     (λ c κs. search needs)
     (λ c. search needs)
     returns
-    returns-2)
+    (λ c. rw (sym (c .before .before .is-french .ensures) ∙ c .before .if1 .left) (refuses (c .refused .ensures))))

@@ -3,7 +3,8 @@
 use borrow.Author.Needs.{needs}
 use native.Mathlib.Omega.{arith}
 use mathlib.Core.Path.{sym}
-use Rattle.fr_calls.proofs.Answers.{refuses, ordinal-none, ordinal-some}
+use Rattle.base.proofs.Replies.{refuses}
+use Rattle.fr_calls.proofs.Answers.{ordinal-none, ordinal-some}
 use Rattle.fr_calls.proofs.read_ordinal.Statement.{statement}
 use Rattle.fr_calls.proofs.read_ordinal.Tie as tie
 
@@ -17,4 +18,4 @@ read-ordinal-spec =
     (λ c κs. search needs)
     (λ c. search needs)
     (λ c. let a = c .before .before .before .before .before .before .before .before .before .before .args in let p = c .before .before .before .before .before .before .read-ordinal in ordinal-some (a .settings) (a .said .now) (p .last .1 .1 .0) (a .out .now) _ _ _ (p .ensures .0) (c .before .before .before .before .before .if1 .taken) (c .before .before .put-number .ensures))
-    (λ c. let a = c .before .before .before .before .before .before .args in let p = c .before .before .read-ordinal in ordinal-none (a .settings) (a .said .now) (p .last .1 .1 .0) (a .out .now) (a .out .now) _ _ (p .ensures .0) (c .before .if1 .left) (refuses _ (a .out .now) 6 (c .refused .ensures))))
+    (λ c. let a = c .before .before .before .before .before .before .args in let p = c .before .before .read-ordinal in ordinal-none (a .settings) (a .said .now) (p .last .1 .1 .0) (a .out .now) (a .out .now) _ _ (p .ensures .0) (c .before .if1 .left) (refuses (c .refused .ensures))))

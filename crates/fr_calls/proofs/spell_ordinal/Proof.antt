@@ -3,31 +3,36 @@
 use borrow.Author.Needs.{needs}
 use native.Mathlib.Omega.{arith}
 use mathlib.Core.Path.{_≡_, ap, _∙_}
-use Rattle.figures.specs.Text.{unsigned}
+use lib.ListN.{length}
+use Rattle.figures.specs.Text.{plain, value, unsigned}
 use Rattle.figures.proofs.Laws.Plain.{plain-digits}
 use Rattle.figures.proofs.Laws.Sign.{formed-unsigned}
+use Rattle.groups.proofs.Held.{Held, held}
 use Rattle.plan.specs.Phrase.{phrase}
 use Rattle.plan.specs.Plan.{says}
 use Rattle.fr.specs.Pool.{frPool}
 use Rattle.fr.specs.Ordinal.{nthPhrase}
 use Rattle.base.proofs.Replies.{heard}
 use Rattle.fr_calls.specs.FrCalls.{frToOrdinal}
-use Rattle.fr_calls.proofs.Answers.{text-groups, text-total, text-orders}
 use Rattle.fr_calls.proofs.spell_ordinal.Statement.{statement}
 use Rattle.fr_calls.proofs.spell_ordinal.Tie as tie
+
+-- the text's groups
+grouped : (c : tie.After-count) → Held 34 (c .before .before .after-sign .result .now) (c .before .groups34 .result) (c .count .result)
+grouped c =
+    let s = c .before .before .before .before .before .before in
+    let d = c .before .before .after-sign .ensures in
+    held 34 _ _ _ (ap plain d ∙ formed-unsigned (s .args .text .now) (s .pre .1)) (omega (arith, ap length d, s .pre .2)) (c .before .groups34 .ensures) (c .count .ensures)
 
 phrase-is : (c : tie.After-plan-ordinal) → let a = c .before .before .before .before .before .before .before .before .before .before .args in phrase (says frPool (c .plan-ordinal .last .1 .1 .1 .1 .0) (c .plan-ordinal .result)) ≡ frToOrdinal (a .settings) (a .text .now) .phrase
 phrase-is c =
     let s = c .before .before .before .before .before .before .before .before .before .before in
-    c .plan-ordinal .ensures .1 ∙ ap (nthPhrase (s .args .settings)) (text-total (s .args .text .now) _ _ (s .pre .1) (s .pre .2) (c .before .before .before .before .before .before .after-sign .ensures) (c .before .before .before .before .before .groups34 .ensures))
+    c .plan-ordinal .ensures .1 ∙ ap (nthPhrase (s .args .settings)) (grouped (c .before .before .before .before) .number ∙ ap value (c .before .before .before .before .before .before .after-sign .ensures))
 
 plan-ordinal-requires : tie.Need-plan-ordinal-requires
 plan-ordinal-requires c κs =
-    let s = c .before .before .before .before .before .before .before .before .before in
-    let t = s .args .text .now in
-    let u = c .before .before .before .before .before .after-sign .ensures in
-    let g = c .before .before .before .before .groups34 .ensures in
-    (c .before .before .before .before .before .before .texts .ensures, s .pre .0, text-groups t _ _ (s .pre .1) (s .pre .2) u g, text-orders t _ _ (s .pre .1) (s .pre .2) u g _ (c .before .before .before .count .ensures), search needs)
+    let g = grouped (c .before .before .before) in
+    (c .before .before .before .before .before .before .texts .ensures, c .before .before .before .before .before .before .before .before .before .pre .0, (g .size, g .below), g .top, search needs)
 
 pub spell-ordinal-spec : {M : Type 1} → statement M
 spell-ordinal-spec =

@@ -2,31 +2,29 @@
 -- Assumes nothing.
 use borrow.Author.Needs.{needs}
 use native.Mathlib.Omega.{arith}
-use mathlib.Core.Path.{_≡_, sym, _∙_}
-use mathlib.Core.Bool.{true, false}
+use mathlib.Core.Path.{sym, _∙_}
+use mathlib.Core.Bool.{false}
 use lib.ListN.{length}
 use Rattle.base.proofs.Replies.{refused-as, said}
-use Rattle.settings.specs.Settings.{frenchSettings, frenchRanges, within}
-use Rattle.settings.proofs.Ranges.{within-holds}
+use Rattle.settings.specs.Settings.{frenchSettings, frenchRanges}
+use Rattle.settings.proofs.Ranges.{Unrefused, unrefused}
 use Rattle.figures.specs.Text.{wellFormed, unsigned}
-use Rattle.figures.specs.Refusals.{cardinalRefusals, Admitted}
+use Rattle.figures.specs.Refusals.{cardinalRefusals}
 use Rattle.figures.proofs.Laws.Refusals.{passed}
 use Rattle.fr_calls.specs.FrCalls.{frToCardinal}
-use Rattle.fr_calls.proofs.Answers.{none-first}
 use Rattle.fr_calls.proofs.to_cardinal.Statement.{statement}
 use Rattle.fr_calls.proofs.to_cardinal.Tie as tie
 
 -- nothing is refused
-none : (c : tie.Then1) → let a = c .before .before .before .before .args in (within (frenchRanges (frenchSettings (a .feminine) (a .reformed) (a .region))) ≡ true) × Admitted (cardinalRefusals 102 (a .text .now))
-none c = let a = c .before .before .before .before .args in none-first (frenchRanges (frenchSettings (a .feminine) (a .reformed) (a .region))) (cardinalRefusals 102 (a .text .now)) (sym (c .before .refuse-cardinal .ensures) ∙ c .if1 .taken)
+none : (c : tie.Then1) → let a = c .before .before .before .before .args in Unrefused (frenchRanges (frenchSettings (a .feminine) (a .reformed) (a .region))) (cardinalRefusals 102 (a .text .now))
+none c = unrefused (sym (c .before .refuse-cardinal .ensures) ∙ c .if1 .taken)
 
 spell-cardinal-requires : tie.Need-spell-cardinal-requires
 spell-cardinal-requires c κs =
     let p = none (c .before .before) in
-    let a = c .before .before .before .before .before .before .args in
-    let t = a .text .now in
-    let f = passed (wellFormed t) false (length (unsigned t)) 102 (p .1) in
-    (rw (c .before .french .ensures) (within-holds (frenchRanges (frenchSettings (a .feminine) (a .reformed) (a .region))) (p .0)), f .formed, f .within)
+    let t = c .before .before .before .before .before .before .args .text .now in
+    let f = passed (wellFormed t) false (length (unsigned t)) 102 (p .others) in
+    (rw (c .before .french .ensures) (p .settings), f .formed, f .within)
 
 returns : tie.Need-returns
 returns c =
@@ -43,7 +41,7 @@ to-cardinal-spec =
     tie.close
     (tie.spec
     (λ c κs. search needs)
-    (λ c κs. none c .0)
+    (λ c κs. none c .test)
     spell-cardinal-requires
     (λ c κs. search needs)
     (λ c. search needs)

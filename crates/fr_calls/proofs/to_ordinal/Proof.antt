@@ -2,31 +2,28 @@
 -- Assumes nothing.
 use borrow.Author.Needs.{needs}
 use native.Mathlib.Omega.{arith}
-use mathlib.Core.Path.{_≡_, sym, _∙_}
-use mathlib.Core.Bool.{true}
+use mathlib.Core.Path.{sym, _∙_}
 use lib.ListN.{length}
 use Rattle.base.proofs.Replies.{refused-as, said}
-use Rattle.settings.specs.Settings.{frenchSettings, frenchRanges, within}
-use Rattle.settings.proofs.Ranges.{within-holds}
+use Rattle.settings.specs.Settings.{frenchSettings, frenchRanges}
+use Rattle.settings.proofs.Ranges.{Unrefused, unrefused}
 use Rattle.figures.specs.Text.{wellFormed, negative, unsigned}
-use Rattle.figures.specs.Refusals.{ordinalRefusals, Admitted}
+use Rattle.figures.specs.Refusals.{ordinalRefusals}
 use Rattle.figures.proofs.Laws.Refusals.{passed}
 use Rattle.fr_calls.specs.FrCalls.{frToOrdinal}
-use Rattle.fr_calls.proofs.Answers.{none-first}
 use Rattle.fr_calls.proofs.to_ordinal.Statement.{statement}
 use Rattle.fr_calls.proofs.to_ordinal.Tie as tie
 
 -- nothing is refused
-none : (c : tie.Then1) → let a = c .before .before .before .before .args in (within (frenchRanges (frenchSettings (a .feminine) (a .reformed) (a .region))) ≡ true) × Admitted (ordinalRefusals 102 (a .text .now))
-none c = let a = c .before .before .before .before .args in none-first (frenchRanges (frenchSettings (a .feminine) (a .reformed) (a .region))) (ordinalRefusals 102 (a .text .now)) (sym (c .before .refuse-ordinal .ensures) ∙ c .if1 .taken)
+none : (c : tie.Then1) → let a = c .before .before .before .before .args in Unrefused (frenchRanges (frenchSettings (a .feminine) (a .reformed) (a .region))) (ordinalRefusals 102 (a .text .now))
+none c = unrefused (sym (c .before .refuse-ordinal .ensures) ∙ c .if1 .taken)
 
 spell-ordinal-requires : tie.Need-spell-ordinal-requires
 spell-ordinal-requires c κs =
     let p = none (c .before .before) in
-    let a = c .before .before .before .before .before .before .args in
-    let t = a .text .now in
-    let f = passed (wellFormed t) (negative t) (length (unsigned t)) 102 (p .1) in
-    (rw (c .before .french .ensures) (within-holds (frenchRanges (frenchSettings (a .feminine) (a .reformed) (a .region))) (p .0)), f .formed, f .within)
+    let t = c .before .before .before .before .before .before .args .text .now in
+    let f = passed (wellFormed t) (negative t) (length (unsigned t)) 102 (p .others) in
+    (rw (c .before .french .ensures) (p .settings), f .formed, f .within)
 
 returns : tie.Need-returns
 returns c =
@@ -43,7 +40,7 @@ to-ordinal-spec =
     tie.close
     (tie.spec
     (λ c κs. search needs)
-    (λ c κs. none c .0)
+    (λ c κs. none c .test)
     spell-ordinal-requires
     (λ c κs. search needs)
     (λ c. search needs)

@@ -1,7 +1,8 @@
 -- `uk_calls::from_cardinal` meets its contract.
 -- Assumes nothing.
-use mathlib.Core.Path.{refl, sym, _∙_}
+use mathlib.Core.Path.{sym, _∙_}
 use borrow.Author.Needs.{needs}
+use Rattle.base.proofs.Replies.{refuses}
 use Rattle.settings.specs.Settings.{ukrainianSettings, ukrainianRanges}
 use Rattle.settings.proofs.Ranges.{within-holds}
 use Rattle.uk_calls.proofs.from_cardinal.Statement.{statement}
@@ -22,4 +23,4 @@ pub from-cardinal-spec : {M : Type 1} → statement M
 from-cardinal-spec =
     tie.close
     (tie.spec (λ c κs. search needs) (λ c κs. sym (c .before .is-ukrainian .ensures) ∙ c .if1 .taken) read-requires (λ c κs. search needs) (λ c. search needs) returns
-    (λ c. rw (sym (c .before .before .is-ukrainian .ensures) ∙ c .before .if1 .left) (record { reported = c .refused .ensures .0; sized = c .refused .ensures .1; held = refl })))
+    (λ c. rw (sym (c .before .before .is-ukrainian .ensures) ∙ c .before .if1 .left) (refuses (c .refused .ensures))))

@@ -8,7 +8,7 @@ use borrow.Author.Needs.{needs}
 use Rattle.settings.specs.declared.Settings.{Settings}
 use Rattle.cardinals.specs.Grammar.{Says}
 use Rattle.cardinals.proofs.Numbers.{said}
-use Rattle.cardinals.proofs.Inverse.{few-digits}
+use Rattle.cardinals.proofs.Inverse.{cardinals, few-digits}
 use Rattle.uk.specs.Ukrainian.{ukrainian}
 use Rattle.numerals.proofs.Readings.{Bounded, read-right}
 use Rattle.uk_calls.proofs.read.Statement.{statement}
@@ -16,7 +16,7 @@ use Rattle.uk_calls.proofs.read.Tie as tie
 
 bounded : (S : Settings) (s : List ℕ) → Bounded (Says (ukrainian S) s)
 unfolding ukrainian
-bounded S s = record { small = λ p. few-digits (ukrainian S) (omega arith) (omega arith) (said (ukrainian S) p .0); some = λ p. said (ukrainian S) p .2 refl }
+bounded S s = record { small = λ p. few-digits (cardinals (ukrainian S)) (omega arith) (omega arith) p; some = λ p. said (ukrainian S) p .2 refl }
 
 pub read-spec : {M : Type 1} → statement M
 read-spec =

@@ -8,7 +8,7 @@ use lib.Dec.{eqb}
 use lib.ListN.{length}
 use borrow.Author.Needs.{needs}
 use Rattle.figures.specs.Groups.{total}
-use Rattle.figures.specs.Text.{digits, value, unsigned}
+use Rattle.figures.specs.Text.{digits, plain, value, unsigned}
 use Rattle.figures.proofs.Laws.Plain.{plain-digits}
 use Rattle.figures.proofs.Laws.Sign.{formed-unsigned}
 use Rattle.plan.specs.Phrase.{phrase}
@@ -32,7 +32,7 @@ grouped : (c : tie.After-plan) → Held 22 (c .before .before .before .before .a
 grouped c =
     let s = c .before .before .before .before .before .before .before .before .before in
     let d = c .before .before .before .before .after-sign .ensures in
-    held 22 _ _ _ (ap digits d ∙ plain-digits (unsigned (s .args .text .now)) (formed-unsigned (s .args .text .now) (s .pre .1))) (omega (arith, ap length d, s .pre .2))
+    held 22 _ _ _ (ap plain d ∙ formed-unsigned (s .args .text .now) (s .pre .1)) (omega (arith, ap length d, s .pre .2))
     (c .before .before .before .groups22 .ensures) (c .before .before .count .ensures)
 
 -- their number is the text's
@@ -43,7 +43,7 @@ plan-cardinal-requires : tie.Need-plan-cardinal-requires
 plan-cardinal-requires c κs =
     let s = c .before .before .before .before .before .before .before .before .before in
     let g = grouped c in
-    ((s .pre .0, g .few, g .zeros, omega arith), (g .below, g .size, c .before .before .before .before .before .before .is-zero .ensures ∙ ap (λ (n : ℕ). eqb n 0) (sym (number-is c))))
+    ((s .pre .0, g .few, g .top .zeros, omega arith), (g .below, g .size, c .before .before .before .before .before .before .is-zero .ensures ∙ ap (λ (n : ℕ). eqb n 0) (sym (number-is c))))
 
 -- what the plan says
 phrase-is : (c : tie.After-plan-cardinal) → let p = c .plan-cardinal in let a = c .before .before .before .before .before .before .before .before .before .before .args in

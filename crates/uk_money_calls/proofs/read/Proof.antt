@@ -1,8 +1,9 @@
 -- `uk_money_calls::read` meets its contract: the money text of an amount, or 6.
 -- Assumes nothing.
-use mathlib.Core.Path.{refl, sym, subst}
+use mathlib.Core.Path.{sym, subst}
 use native.Mathlib.Omega.{arith}
 use borrow.Author.Needs.{needs}
+use Rattle.base.proofs.Replies.{refuses}
 use Rattle.uk_money.specs.Rows.{currencyAt}
 use Rattle.uk_money_read.specs.Promise.{ReadMoney}
 use Rattle.uk_money_read.specs.declared.Reading.{Reading}
@@ -16,7 +17,7 @@ returns c =
     let p = c .before .before .before .read-money in
     seen-none (a .settings) (currencyAt (a .currency)) (a .said .now) (p .last .1 .1 .1 .0) (a .out .now) (a .out .now) _
     (subst (λ (x : Reading). ReadMoney (a .settings) (currencyAt (a .currency)) (a .said .now) x (p .last .1 .1 .1 .0)) (c .before .enum-told .given .1) (p .ensures .0))
-    (record { reported = c .refused .ensures .0; sized = c .refused .ensures .1; held = refl })
+    (refuses (c .refused .ensures))
 
 returns-2 : tie.Need-returns-2
 returns-2 c =

@@ -11,24 +11,25 @@ use lib.ListN.{length}
 use borrow.Author.Needs.{needs}
 use Rattle.base.proofs.Replies.{heard}
 use Rattle.figures.specs.Groups.{total}
-use Rattle.figures.specs.Text.{digits, value, unsigned, wellFormed}
+use Rattle.figures.specs.Text.{digits, plain, value, unsigned, wellFormed}
 use Rattle.figures.specs.Money.{wholeText, wholeOf, hundredthsOf}
+use Rattle.figures.proofs.Laws.Plain.{plain-digits}
 use Rattle.groups.proofs.Held.{Held, held}
 use Rattle.plan.specs.Phrase.{phrase}
 use Rattle.plan.specs.Plan.{says}
 use Rattle.uk.specs.Pool.{ukPool}
 use Rattle.uk_money.specs.Money.{amountPhrase}
 use Rattle.uk_money.specs.Rows.{currencyAt}
-use Rattle.uk_money_calls.proofs.Texts.{whole-digits, whole-formed, whole-few, hundredths-digits, hundredths-small}
+use Rattle.uk_money_calls.proofs.Texts.{plain-whole, whole-formed, whole-few, hundredths-digits, hundredths-small}
 use Rattle.uk_money_calls.proofs.spell.Statement.{statement}
 use Rattle.uk_money_calls.proofs.spell.Tie as tie
 
--- the digits of the whole part
-whole-is : (c : tie.After-after-sign) → let t = c .before .before .before .before .before .args .text .now in (c .after-sign .result .now ≡ unsigned (wholeText t)) × (digits (c .after-sign .result .now) ≡ true)
+-- the digits of the whole part, which are plain
+whole-is : (c : tie.After-after-sign) → let t = c .before .before .before .before .before .args .text .now in (c .after-sign .result .now ≡ unsigned (wholeText t)) × (plain (c .after-sign .result .now) ≡ true)
 whole-is c =
     let s = c .before .before .before .before .before in
     let e = c .after-sign .ensures ∙ ap unsigned (c .before .before .whole-part .ensures) in
-    (e, ap digits e ∙ whole-digits (s .args .text .now) (s .pre .2))
+    (e, ap plain e ∙ plain-whole (s .args .text .now) (s .pre .2))
 
 value-of-requires : tie.Need-value-of-requires
 value-of-requires c κs =
@@ -61,7 +62,7 @@ plan-money-requires c κs =
     let g = grouped c in
     let few : c .before .before .before .before .count .result ≤ 7 = omega (arith, c .before .before .before .before .count .ensures, ap length (whole-is (c .before .before .before .before .before .before) .0), whole-few (s .args .text .now) (s .pre .2)) in
     let zero = c .before .before .before .before .before .before .before .is-zero .ensures ∙ ap (λ (l : List ℕ). eqb (value (unsigned l)) 0) (c .before .before .before .before .before .before .before .before .whole-part .ensures) ∙ ap (λ (n : ℕ). eqb n 0) (sym (number-is c)) in
-    ((s .pre .0, s .pre .1, few, g .zeros, small (c .before .before), omega arith), (g .below, g .size, zero))
+    ((s .pre .0, s .pre .1, few, g .top .zeros, small (c .before .before), omega arith), (g .below, g .size, zero))
 
 -- what the plan says
 phrase-is : (c : tie.After-plan-money) → let p = c .plan-money in let a = c .before .before .before .before .before .before .before .before .before .before .before .before .args in
@@ -73,6 +74,6 @@ spell-spec =
     tie.close
     (tie.spec (λ c κs. search needs)
     (λ c κs. let s = c .before .before .before in ap wellFormed (c .whole-part .ensures) ∙ whole-formed (s .args .text .now) (s .pre .2))
-    (λ c κs. search needs) (λ c κs. whole-is c .1) (λ c κs. search needs) (λ c κs. search needs) value-of-requires (λ c. omega (arith, small c)) (λ c. search needs)
+    (λ c κs. search needs) (λ c κs. plain-digits (c .after-sign .result .now) (whole-is c .1)) (λ c κs. search needs) (λ c κs. search needs) value-of-requires (λ c. omega (arith, small c)) (λ c. search needs)
     plan-money-requires (λ c. search needs) (λ c κs. search needs) (λ c. search needs)
     (λ c. (heard _ _ _ (phrase-is (c .before .before .before .before .before .before)) (c .before .before .speak .ensures .0), omega (arith, c .before .before .speak .ensures .1, c .before .before .before .before .before .before .plan-money .ensures .0))))

@@ -3,13 +3,10 @@
 use mathlib.Core.Path.{sym, _∙_}
 use native.Mathlib.Omega.{arith}
 use borrow.Author.Needs.{needs}
-use Rattle.base.proofs.Replies.{refused-as, said, heard}
+use Rattle.base.proofs.Replies.{refuses, refused-as}
 use Rattle.settings.specs.Settings.{ukrainianSettings, ukrainianRanges}
 use Rattle.settings.proofs.Ranges.{within-holds}
-use Rattle.figures.specs.Refusals.{amountRefusals}
-use Rattle.uk_money.specs.Codes.{currencyOf}
-use Rattle.uk_money_calls.specs.MoneyCalls.{moneyPhrase}
-use Rattle.uk_money_calls.proofs.Entries.{settings-first, code-next, others-last, said-in}
+use Rattle.uk_money.proofs.Coded.{known-code, unknown-code}
 use Rattle.uk_money_calls.proofs.to_currency.Statement.{statement}
 use Rattle.uk_money_calls.proofs.to_currency.Tie as tie
 
@@ -23,31 +20,23 @@ spell-requires c κs =
 
 returns : tie.Need-returns
 returns c =
-    let a = c .before .before .before .before .before .before .before .before .before .before .before .before .before .before .before .args in
-    let S = ukrainianSettings (a .gender) (a .number) (a .case) in
     let k = c .before .before .before .before .before .before .before .before .before .code-of in
-    let h = c .before .before .before .before .before .before .before .before .if2 .taken in
-    let z = others-last S (a .code .now) (amountRefusals (a .text .now)) (sym (c .before .before .before .before .before .before .before .before .before .before .before .is-ukrainian .ensures) ∙ c .before .before .before .before .before .before .before .before .before .before .if1 .taken) (rw (k .ensures) at h)
-    ∙ sym (c .before .before .before .before .before .before .number-of .ensures ∙ c .before .before .before .before .before .before .before .judge-amount .ensures) ∙ c .before .before .before .before .before .if3 .taken in
-    (said _ _ _ (moneyPhrase S (currencyOf (a .code .now)) (a .text .now)) _ z (heard _ _ _ (said-in S (a .code .now) (k .result) (k .ensures) h (a .text .now)) (rw (c .before .before .before .before .ukrainian .ensures) at (c .before .before .spell .ensures .0))), c .before .before .spell .ensures .1)
+    let w = sym (c .before .before .before .before .before .before .before .before .before .before .before .is-ukrainian .ensures) ∙ c .before .before .before .before .before .before .before .before .before .before .if1 .taken in
+    let z = sym (c .before .before .before .before .before .before .number-of .ensures ∙ c .before .before .before .before .before .before .before .judge-amount .ensures) ∙ c .before .before .before .before .before .if3 .taken in
+    (rw (w, known-code _ (rw (k .ensures) at (c .before .before .before .before .before .before .before .before .if2 .taken)), z) (rw (c .before .before .before .before .ukrainian .ensures, k .ensures) at (c .before .before .spell .ensures .0)), c .before .before .spell .ensures .1)
 
 returns-2 : tie.Need-returns-2
 returns-2 c =
-    let a = c .before .before .before .before .before .before .before .before .before .before .before .args in
-    let e = others-last (ukrainianSettings (a .gender) (a .number) (a .case)) (a .code .now) (amountRefusals (a .text .now)) (sym (c .before .before .before .before .before .before .before .is-ukrainian .ensures) ∙ c .before .before .before .before .before .before .if1 .taken) (rw (c .before .before .before .before .before .code-of .ensures) at (c .before .before .before .before .if2 .taken)) in
-    (refused-as _ (a .out .now) _ _ _ (c .refused .ensures) (c .before .before .number-of .ensures ∙ c .before .before .before .judge-amount .ensures ∙ sym e) (c .before .if3 .left), omega (arith, c .refused .ensures .1))
+    let w = sym (c .before .before .before .before .before .before .before .is-ukrainian .ensures) ∙ c .before .before .before .before .before .before .if1 .taken in
+    (rw (w, known-code _ (rw (c .before .before .before .before .before .code-of .ensures) at (c .before .before .before .before .if2 .taken))) (refused-as _ _ _ _ _ (c .refused .ensures) (c .before .before .number-of .ensures ∙ c .before .before .before .judge-amount .ensures) (c .before .if3 .left)), omega (arith, c .refused .ensures .1))
 
 returns-3 : tie.Need-returns-3
 returns-3 c =
-    let a = c .before .before .before .before .before .before .before .before .args in
-    let e = code-next (ukrainianSettings (a .gender) (a .number) (a .case)) (a .code .now) (amountRefusals (a .text .now)) (sym (c .before .before .before .before .is-ukrainian .ensures) ∙ c .before .before .before .if1 .taken) (rw (c .before .before .code-of .ensures) at (c .before .if2 .left)) in
-    (refused-as _ (a .out .now) _ _ _ (c .refused2 .ensures) (sym e) (λ z. omega arith), omega (arith, c .refused2 .ensures .1))
+    let w = sym (c .before .before .before .before .is-ukrainian .ensures) ∙ c .before .before .before .if1 .taken in
+    (rw (w, unknown-code _ (rw (c .before .before .code-of .ensures) at (c .before .if2 .left))) (refuses (c .refused2 .ensures)), omega (arith, c .refused2 .ensures .1))
 
 returns-4 : tie.Need-returns-4
-returns-4 c =
-    let a = c .before .before .before .before .before .before .args in
-    let e = settings-first (ukrainianSettings (a .gender) (a .number) (a .case)) (a .code .now) (amountRefusals (a .text .now)) (sym (c .before .before .is-ukrainian .ensures) ∙ c .before .if1 .left) in
-    (refused-as _ (a .out .now) _ _ _ (c .refused3 .ensures) (sym e) (λ z. omega arith), omega (arith, c .refused3 .ensures .1))
+returns-4 c = (rw (sym (c .before .before .is-ukrainian .ensures) ∙ c .before .if1 .left) (refuses (c .refused3 .ensures)), omega (arith, c .refused3 .ensures .1))
 
 pub to-currency-spec : {M : Type 1} → statement M
 to-currency-spec =

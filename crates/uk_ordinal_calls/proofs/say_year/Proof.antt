@@ -1,7 +1,7 @@
 -- `uk_ordinal_calls::say_year` meets its contract.
 -- Assumes nothing.
 use Prim.Native.Nat.{_^_, _<_}
-use mathlib.Core.Path.{_≡_, sym, ap, _∙_, subst}
+use mathlib.Core.Path.{_≡_, ap, _∙_}
 use native.Mathlib.Omega.{arith}
 use borrow.Author.Needs.{needs}
 use native.Mathlib.Nat.{lt-trans}
@@ -9,10 +9,10 @@ use lib.Dec.{lit<}
 use lib.IntN.{natAbs}
 use mir.Facts.{toZ-ofZ}
 use Rattle.figures.specs.Groups.{groupsOf}
+use Rattle.figures.proofs.Laws.Groups.{groups-length, groups-below}
 use Rattle.uk_ordinal.specs.Year.{early}
-use Rattle.uk_ordinal_plan.specs.Groups.{Groups22}
 use Rattle.base.proofs.Replies.{heard}
-use Rattle.uk_ordinal_calls.proofs.Admitted.{groups, year-said}
+use Rattle.uk_ordinal_calls.proofs.Admitted.{groups-22, year-said}
 use Rattle.uk_ordinal_calls.proofs.say_year.Statement.{statement}
 use Rattle.uk_ordinal_calls.proofs.say_year.Tie as tie
 
@@ -40,5 +40,5 @@ pub say-year-spec : {M : Type 1} → statement M
 say-year-spec =
     tie.close
     (tie.spec (λ c κs. search needs) (λ c. search needs) (λ c κs. search needs) (λ c κs. search needs) (λ c. search needs)
-    (λ c κs. (c .before .before .before .before .before .before .before .before .pre, subst Groups22 (sym (groups-are (c .before .before .before))) (groups _), c .before .before .before .before .groups-from .ensures .1, search needs))
+    (λ c κs. (c .before .before .before .before .before .before .before .before .pre, groups-22 _ (rw (groups-are (c .before .before .before)) (groups-length 22 _)) (rw (groups-are (c .before .before .before)) (groups-below 22 _)), c .before .before .before .before .groups-from .ensures .1, search needs))
     (λ c. search needs) (λ c κs. search needs) (λ c. search needs) returns)

@@ -1,11 +1,11 @@
 -- `uk_ordinal_calls::to_year` meets its contract.
 -- Assumes nothing.
-use mathlib.Core.Path.{refl, sym, _∙_}
+use mathlib.Core.Path.{sym, _∙_}
 use native.Mathlib.Omega.{arith}
 use borrow.Author.Needs.{needs}
 use mir.Facts.{toZ-ofZ}
 use Rattle.base.specs.Answer.{refused}
-use Rattle.base.proofs.Replies.{refused-as}
+use Rattle.base.proofs.Replies.{refuses}
 use Rattle.settings.specs.Settings.{ukrainianSettings, ukrainianRanges}
 use Rattle.settings.proofs.Ranges.{within-holds}
 use Rattle.uk_ordinal_calls.proofs.to_year.Statement.{statement}
@@ -22,7 +22,7 @@ returns c =
 
 returns-2 : tie.Need-returns-2
 returns-2 c =
-    (rw (sym (c .before .before .is-ukrainian .ensures) ∙ c .before .if1 .left) (refused-as _ _ (refused 1 0) 1 1 (c .refused .ensures) refl (λ e. omega arith)), omega (arith, c .refused .ensures .1))
+    (rw (sym (c .before .before .is-ukrainian .ensures) ∙ c .before .if1 .left) (refuses (c .refused .ensures)), omega (arith, c .refused .ensures .1))
 
 pub to-year-spec : {M : Type 1} → statement M
 to-year-spec =
