@@ -85,7 +85,7 @@ pub record Answers (r : Answer) (xs ys : List ℕ) (reply : Reply) : Type 0 wher
 -- "Phrase grammar and reader"): a sentence whose value is the text t is answered by t, or by 7 where t does not fit; any other bytes by 6
 pub record Reads (Means : List ℕ → List ℕ → Type 0) (s : List ℕ) (r : Answer) (xs ys : List ℕ) : Type 0 where
   pub sentence : (t : List ℕ) → Means s t → Answers r xs ys (fitted xs t)
-  pub none : ((t : List ℕ) → Means s t → ⊥) → Answers r xs ys (refused noSentence 0)
+  pub otherwise : ((t : List ℕ) → Means s t → ⊥) → Answers r xs ys (refused noSentence 0)
 
 -- the same, where the refusal n comes first unless it is 0
 abbrev pub ReadsUnless : ℕ → (List ℕ → List ℕ → Type 0) → List ℕ → Answer → List ℕ → List ℕ → Type 0

@@ -42,7 +42,7 @@ module _ (Admitted : List ℕ → Type 0) (phrase : List ℕ → List ℕ) (Mean
   pub inverse : ((s t u : List ℕ) → Means s t → Means s u → t ≡ u) → ((s : List ℕ) → Dec ((t : List ℕ) × Means s t)) → Readable Admitted phrase Means
   inverse one decided = record {
     spelled = spelled;
-    value = means;
+    respelled = means;
     oneText = λ t u a b e. one (phrase u) t u (subst (λ (s : List ℕ). Means s t) e (spelled t a)) (spelled u b);
     oneValue = one;
     decided = decided;

@@ -17,8 +17,8 @@ pub record IsNumber (minus : Bool) (n : ℕ) (t : List ℕ) : Type 0 where
 pub record IsAmount (n h : ℕ) (t : List ℕ) : Type 0 where
   pub formed : moneyFormed t ≡ true
   pub sign : negative t ≡ false
-  pub whole : wholeOf t ≡ n
-  pub part : hundredthsOf t ≡ h
+  pub wholeIs : wholeOf t ≡ n
+  pub hundredthsAre : hundredthsOf t ≡ h
 
 -- bytes of which the grammar says that they are a sentence with a sign and a number: its value is the number text t
 pub record NumberMeans (Says : Bool → ℕ → Type 0) (t : List ℕ) : Type 0 where
@@ -29,7 +29,7 @@ pub record NumberMeans (Says : Bool → ℕ → Type 0) (t : List ℕ) : Type 0 
 
 -- bytes of which it says that they are an amount with a whole part and hundredths: its value is the money text t
 pub record AmountMeans (Says : ℕ → ℕ → Type 0) (t : List ℕ) : Type 0 where
-  pub units : ℕ
+  pub whole : ℕ
   pub hundredths : ℕ
-  pub says : Says units hundredths
-  pub valued : IsAmount units hundredths t
+  pub says : Says whole hundredths
+  pub valued : IsAmount whole hundredths t

@@ -49,11 +49,11 @@ module _ (Says : List ℕ → Bool → ℕ → Type 0) (s gs xs ys : List ℕ) (
     sentence = λ t x.
         let e = p .reads (x .minus) (x .magnitude) (x .says) in
         rw (number-is (x .valued) (b .small (x .says)), ← e .1, ← seen-sign m (x .minus) (e .0)) a;
-    none = λ f. seen-done m (p .refuses (λ k n q. f (signedDecimal k n) (record { minus = k; magnitude = n; says = q; valued = number-text k n (b .small q) (signed k q) })));
+    otherwise = λ f. seen-done m (p .refuses (λ k n q. f (signedDecimal k n) (record { minus = k; magnitude = n; says = q; valued = number-text k n (b .small q) (signed k q) })));
   }
 
   pub read-right : (seen : Seen) → ReadOf (Says s) seen gs → Answers r xs ys (answered seen (total gs) xs) → Right
-  read-right Refused p a = record { sentence = λ t m. seen-not (m .minus) (p .reads (m .minus) (m .magnitude) (m .says) .0); none = λ f. a }
+  read-right Refused p a = record { sentence = λ t m. seen-not (m .minus) (p .reads (m .minus) (m .magnitude) (m .says) .0); otherwise = λ f. a }
   read-right Plain p a = some false p a
   read-right Negative p a = some true p a
 

@@ -1,7 +1,7 @@
 -- A phrase that is no sentence: what is made of it is the only figure that it could mean, and that figure has another phrase.
 -- Assumes nothing.
 use Prim.Native.Nat.{ℕ}
-use mathlib.Core.Path.{_≡_, sym, ap, _∙_}
+use mathlib.Core.Path.{_≡_, sym, _∙_}
 use mathlib.Core.Bool.{Bool}
 use mathlib.Core.List.{List}
 use Rattle.settings.specs.Settings.{ukrainianRanges, Within}

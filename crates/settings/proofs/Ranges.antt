@@ -6,7 +6,7 @@ use mathlib.Core.Bool.{Bool, true, false, not, cond}
 use mathlib.Core.List.{List, [], _∷_}
 use native.Mathlib.Omega.{arith}
 use lib.Dec.{ltb}
-use borrow.Author.Tests.{ltb-true, lt-ltb}
+use borrow.Author.Tests.{ltb-true}
 use Rattle.tables.proofs.Tests.{and-left, and-right}
 use Rattle.base.specs.Answer.{firstOf}
 use Rattle.settings.specs.Settings.{within, Within}
@@ -16,10 +16,6 @@ pub within-holds : (rs : List (ℕ × ℕ)) → within rs ≡ true → Within rs
 within-holds [] e = tt
 within-holds (r ∷ rs) e =
     (ltb-true (r .0) (r .1) (and-left (ltb (r .0) (r .1)) (within rs) e), within-holds rs (and-right (ltb (r .0) (r .1)) (within rs) e))
-
-pub within-true : (rs : List (ℕ × ℕ)) → Within rs → within rs ≡ true
-within-true [] w = refl
-within-true (r ∷ rs) w = rw (lt-ltb (r .0) (r .1) (w .0), within-true rs (w .1)) refl
 
 -- a call of which nothing is refused has its settings in their ranges, and none of the conditions behind that holds
 pub record Unrefused (rs : List (ℕ × ℕ)) (cs : List (Bool × ℕ)) : Type 0 where

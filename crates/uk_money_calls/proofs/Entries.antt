@@ -32,15 +32,15 @@ module _ (S : Settings) (c : Currency) (s gs xs ys : List ℕ) (r : Answer) wher
   Right = Reads (λ (l : List ℕ). AmountMeans (SaysMoney S c l)) s r xs ys
 
   pub seen-none : ReadMoney S c s Refused gs → Answers r xs ys (refused 6 0) → Right
-  seen-none p a = record { sentence = λ t x. seen-not (x .hundredths) (p .reads (x .units) (x .hundredths) (x .says) .0); none = λ f. a }
+  seen-none p a = record { sentence = λ t x. seen-not (x .hundredths) (p .reads (x .whole) (x .hundredths) (x .says) .0); otherwise = λ f. a }
 
   pub seen-some : (h : ℕ) → ReadMoney S c s (Amount h) gs → Answers r xs ys (fitted xs (moneyDecimal (total gs) h)) → Right
   seen-some h p a = record {
     sentence = λ t x.
-        let e = p .reads (x .units) (x .hundredths) (x .says) in
+        let e = p .reads (x .whole) (x .hundredths) (x .says) in
         rw (amount-is (x .valued) (amount-said S c (x .says) .0), ← e .1, same h (x .hundredths) (e .0)) a;
-    none = λ f.
-        let e = p .refuses (λ n k q. let l = amount-said S c q in f (moneyDecimal n k) (record { units = n; hundredths = k; says = q; valued = amount-text n k (money-small (l .0)) (l .1) })) in
+    otherwise = λ f.
+        let e = p .refuses (λ n k q. let l = amount-said S c q in f (moneyDecimal n k) (record { whole = n; hundredths = k; says = q; valued = amount-text n k (money-small (l .0)) (l .1) })) in
         absurd (omega (arith, e));
   }
     where

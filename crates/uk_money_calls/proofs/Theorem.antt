@@ -34,18 +34,18 @@ module _ (S : Settings) (c : Currency) where
   spelled-means t a =
       let p = admits t a in
       record {
-        units = wholeOf t;
+        whole = wholeOf t;
         hundredths = hundredthsOf t;
         says = amount-says S c (wholeOf t) (hundredthsOf t) (p .within) (hundredths-small t a);
-        valued = record { formed = p .formed; sign = p .sign; whole = refl; part = refl };
+        valued = record { formed = p .formed; sign = p .sign; wholeIs = refl; hundredthsAre = refl };
       }
 
   means-spelled : (s t : List ℕ) → MoneyMeans S (some c) s t → Admitted (amountRefusals t) × (moneyPhrase S (some c) t ≡ s)
   means-spelled s t m =
       let w = amount-said S c (m .says) in
       let x = m .valued in (
-        none-refused {f = moneyFormed t} {r = negative t} {size = wholeOf t} {limit = moneyLimit} (record { formed = x .formed; sign = x .sign; within = rw (x .whole) (w .0) }),
-        rw (x .whole, x .part) (w .2),
+        none-refused {f = moneyFormed t} {r = negative t} {size = wholeOf t} {limit = moneyLimit} (record { formed = x .formed; sign = x .sign; within = rw (x .wholeIs) (w .0) }),
+        rw (x .wholeIs, x .hundredthsAre) (w .2),
       )
 
 -- of one of the 44

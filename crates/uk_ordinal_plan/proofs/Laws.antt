@@ -10,7 +10,7 @@ use Rattle.plan.specs.Plan.{Added, says, pieces}
 use Rattle.plan.specs.Speaks.{Speaks, none, whole, ended, Told}
 use Rattle.plan.proofs.Added.{stay, then, same}
 use Rattle.plan.proofs.Laws.{following-append}
-use Rattle.uk_ordinal_plan.specs.Said.{LedBy, nothing, piece, Said, run, Ran, Spoken}
+use Rattle.uk_ordinal_plan.specs.Said.{LedBy, nothing, piece, Said, runOn, Ran, Spoken}
 
 -- the same bytes, in more room
 resay : {pool : List ℕ} {s k n r : ℕ} {xs ys b c : List ℕ} (i : ℕ) → Said pool s k xs n ys r b → k ≤ i → b ≡ c → Said pool s i xs n ys r c
@@ -46,18 +46,18 @@ on {pool} {s = s} {c = c} b i p q h = record {
 
 -- words run together: none, one, more
 pub run-none : {pool : List ℕ} (s k : ℕ) (xs : List ℕ) (n : ℕ) → Ran pool s k xs n xs n []
-unfolding run following
+unfolding runOn following
 run-none s k xs n = record { said = record { pieces = []; added = stay k xs n; led = nothing; bytes = refl } }
 
 pub run-one : {pool : List ℕ} {s n r : ℕ} {xs ys b w : List ℕ} → Added pool 1 xs n ys r ((s, b) ∷ []) → b ≡ w → Ran pool s 1 xs n ys r (w ∷ [])
-unfolding run flatten following
+unfolding runOn flatten following
 run-one {s = s} {b = b} a e = rw (← e) (record { said = record { pieces = (s, b) ∷ []; added = a; led = piece b []; bytes = append-assoc (gap s) b [] } })
 
 pub rerun : {pool : List ℕ} {s k n r : ℕ} {xs ys : List ℕ} {us ws : List Word} (i : ℕ) → Ran pool s k xs n ys r us → k ≤ i → us ≡ ws → Ran pool s i xs n ys r ws
-rerun {s = s} i a h e = record { said = resay i (a .said) h (ap (run s) e) }
+rerun {s = s} i a h e = record { said = resay i (a .said) h (ap (runOn s) e) }
 
-run-on : (ws : List Word) → run 0 ws ≡ flatten ws
-unfolding run flatten
+run-on : (ws : List Word) → runOn 0 ws ≡ flatten ws
+unfolding runOn flatten
 run-on [] = refl
 run-on (w ∷ ws) = refl
 
@@ -68,7 +68,7 @@ flatten-append (u ∷ us) vs = rw (flatten-append us vs) (sym (append-assoc u (f
 
 pub run-more : {pool : List ℕ} {s j k n m r : ℕ} {xs ys zs w : List ℕ} {us vs : List Word} (i : ℕ) → Ran pool s j xs n ys m (w ∷ us) → Ran pool 0 k ys m zs r vs → j + k ≤ i
     → Ran pool s i xs n zs r ((w ∷ us) ++ vs)
-unfolding run
+unfolding runOn
 run-more {s = s} {w = w} {us = us} {vs = vs} i p q h =
     record { said = resay i (on (flatten (w ∷ us)) i (p .said) (q .said) h) (omega arith) (ap (λ (l : List ℕ). gap s ++ l) (rw (flatten-append (w ∷ us) vs, run-on vs) refl)) }
 
@@ -79,14 +79,14 @@ run-then {us = u ∷ us} i p q h z = run-more i p q h
 
 -- a word of a stem and an ending
 pub run-ended : {pool : List ℕ} {s n m r : ℕ} {xs ys zs b c w v : List ℕ} → Added pool 1 xs n ys m ((s, b) ∷ []) → Added pool 1 ys m zs r ((0, c) ∷ []) → b ≡ w → c ≡ v → Ran pool s 2 xs n zs r ((w ++ v) ∷ [])
-unfolding run flatten
+unfolding runOn flatten
 run-ended {s = s} {w = w} {v = v} a d e f =
     let p = run-more 2 (run-one a e) (run-one d f) (omega arith) in
     record { said = resay 2 (p .said) (omega arith) (ap (λ (l : List ℕ). gap s ++ l) (sym (append-assoc w v []))) }
 
 -- words run together after a space are one word
 pub run-word : {pool : List ℕ} {k n r : ℕ} {xs ys : List ℕ} {ws : List Word} → Ran pool 32 k xs n ys r ws → (ws ≡ [] → ⊥) → Spoken pool k xs n ys r (flatten ws ∷ [])
-unfolding run
+unfolding runOn
 run-word {ws = []} a z = absurd (z refl)
 run-word {k = k} {ws = w ∷ ws} a z = record { said = resay k (a .said) (omega arith) (ap (λ (l : List ℕ). 32 ∷ l) (sym (append-nil (flatten (w ∷ ws))))) }
 

@@ -20,13 +20,13 @@ pub record Said (pool : List ℕ) (s k : ℕ) (xs : List ℕ) (n : ℕ) (ys : Li
   pub bytes : following pieces ≡ b
 
 -- words run together after the separator s; nothing for none
-unfoldable pub run : ℕ → List Word → List ℕ
-run s [] = []
-run s (w ∷ ws) = gap s ++ flatten (w ∷ ws)
+unfoldable pub runOn : ℕ → List Word → List ℕ
+runOn s [] = []
+runOn s (w ∷ ws) = gap s ++ flatten (w ∷ ws)
 
 -- `Said` of the words ws, run together after the separator s
 pub record Ran (pool : List ℕ) (s k : ℕ) (xs : List ℕ) (n : ℕ) (ys : List ℕ) (r : ℕ) (ws : List Word) : Type 0 where
-  pub said : Said pool s k xs n ys r (run s ws)
+  pub said : Said pool s k xs n ys r (runOn s ws)
 
 -- `Said` of the words ws, each after a space
 pub record Spoken (pool : List ℕ) (k : ℕ) (xs : List ℕ) (n : ℕ) (ys : List ℕ) (r : ℕ) (ws : List Word) : Type 0 where

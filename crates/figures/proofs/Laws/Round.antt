@@ -66,7 +66,7 @@ amount-whole xs p =
     let n : negative xs ≡ false = digits-unsigned xs d in
     let u : unsigned xs ≡ xs = unsigned-plain xs n in
     let e : pointed xs ≡ false = digits-whole xs d in
-    record { formed = rw (e, u, p, n); sign = n; whole = rw (e, u); part = rw e }
+    record { formed = rw (e, u, p, n); sign = n; wholeIs = rw (e, u); hundredthsAre = rw e }
 
 -- of digits, '.', and two digits that are not both zero
 module _ (a b : List ℕ) (p : plain a ≡ true) (d : areHundredths b ≡ true) (l : length b ≡ 2) where
@@ -100,8 +100,8 @@ module _ (a b : List ℕ) (p : plain a ≡ true) (d : areHundredths b ≡ true) 
       record {
         formed = money-pointed xs point (ap plain n ∙ p) ∙ ap areHundredths back ∙ d;
         sign = unsigned-front;
-        whole = ap value n;
-        part = ap value back;
+        wholeIs = ap value n;
+        hundredthsAre = ap value back;
       }
 
 pub amount-text : (w h : ℕ) → w < 10 ^ 102 → h < 100 → IsAmount w h (moneyDecimal w h)
@@ -120,8 +120,8 @@ amount-text w h l m = go (eqb h 0) refl
 -- an amount's text is the one that is written
 pub amount-is : {w h : ℕ} {t : List ℕ} → IsAmount w h t → w ≤ moneyLimit → t ≡ moneyDecimal w h
 amount-is {w} {h} {t} x l =
-    let s : length (unsigned (wholeText t)) ≤ 20 = plain-size (unsigned (wholeText t)) 20 (whole-plain t (x .formed)) (omega arith) (rw (x .whole) (omega arith)) in
-    sym (rw (x .whole, x .part) at (money-round t (x .formed) (x .sign) (short s)))
+    let s : length (unsigned (wholeText t)) ≤ 20 = plain-size (unsigned (wholeText t)) 20 (whole-plain t (x .formed)) (omega arith) (rw (x .wholeIs) (omega arith)) in
+    sym (rw (x .wholeIs, x .hundredthsAre) at (money-round t (x .formed) (x .sign) (short s)))
   where
     short : length (unsigned (wholeText t)) ≤ 20 → length t ≤ 102
     short s = go (pointed t) refl

@@ -3,7 +3,7 @@
 use Prim.Native.Nat.{ℕ}
 use mathlib.Core.Path.{_≡_, _∙_}
 use borrow.Author.Needs.{needs}
-use Rattle.settings.specs.Settings.{inGender, ukrainianRanges, Within}
+use Rattle.settings.specs.Settings.{ukrainianRanges, Within}
 use Rattle.settings.specs.declared.Settings.{Settings}
 use Rattle.uk.specs.Ukrainian.{atOrder}
 use Rattle.uk.proofs.Laws.{at-one, at-high, ordered}
