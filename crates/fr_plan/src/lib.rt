@@ -15,6 +15,7 @@ ghost use Rattle.plan.specs.Plan.{says};
 ghost use Rattle.fr.specs.Pool.{frPool};
 ghost use Rattle.base.specs.Join.{spacedBy};
 ghost use Rattle.settings.specs.Settings.{frenchRanges, Within};
+ghost use Rattle.settings.specs.Packed.{settingsIn};
 ghost use Rattle.cardinals.specs.Cardinal.{groupOf, cardinalWords, cardinalPhrase};
 ghost use Rattle.cardinals.specs.Listed.{listed};
 ghost use Rattle.fr.specs.Rules.{isMille, frenchJoiner, hundredWords, link, tensWords, scaleWords, french};
@@ -166,23 +167,18 @@ fn group(settings: Settings, order: usize, g: u16, plan: &mut [u32], at: usize) 
     scale_words(settings, order, n, plan, b)
 }
 
-// The groups below order n, from the highest down: each call has one order fewer.
-fn groups(
-    settings: Settings,
-    n: usize,
-    gs: &[u16; ORDERS],
-    plan: &mut [u32; PLAN],
-    at: usize,
-) -> usize
-    requires { ⌜ Within (frenchRanges settings) × (n ≤ 34) × (at + 5 * n ≤ length (now plan)) ⌝ }
-    ensures { λ r. ⌜ Appended (5 * n) (now (plan .entry)) at (now (plan .exit)) r (spacedBy (frenchJoiner settings) (listed (french settings) n (now (gs .entry)))) ⌝ }
+// The groups below order n, from the highest down: each call has one order fewer. The settings go as one number and the plan as an array, and nothing is
+// left to do behind the call, so that the compiler makes a loop of it.
+fn groups(code: u64, n: usize, gs: &[u16; ORDERS], plan: &mut [u32; PLAN], at: usize) -> usize
+    requires { ⌜ Within (frenchRanges (settingsIn code)) × (n ≤ 34) × (at + 5 * n ≤ length (now plan)) ⌝ }
+    ensures { λ r. ⌜ Appended (5 * n) (now (plan .entry)) at (now (plan .exit)) r (spacedBy (frenchJoiner (settingsIn code)) (listed (french (settingsIn code)) n (now (gs .entry)))) ⌝ }
 {
     if n == 0 {
         return at;
     }
     let order = n - 1;
-    let k = group(settings, order, gs[order], plan, at);
-    groups(settings, order, gs, plan, k)
+    let k = group(settings::unpacked(code), order, gs[order], plan, at);
+    groups(code, order, gs, plan, k)
 }
 
 // The plan of a cardinal: zero's word, or the minus word if negative and the groups, of which those from n on are 0.
@@ -203,9 +199,9 @@ fn plan_words(
     }
     if negative {
         let at = join(settings, fr::MOINS, plan, 0);
-        return groups(settings, n, gs, plan, at);
+        return groups(settings::packed(settings), n, gs, plan, at);
     }
-    groups(settings, n, gs, plan, 0)
+    groups(settings::packed(settings), n, gs, plan, 0)
 }
 
 // The plan of a cardinal's phrase, of a number whose groups have n orders.

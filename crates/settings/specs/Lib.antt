@@ -1,2 +1,3 @@
 pub mod Settings
 pub mod Refused
+pub mod Packed

@@ -3,6 +3,7 @@ ghost use mathlib.Core.Path.{_≡_};
 ghost use mathlib.Core.Bool.{true};
 ghost use Prim.Native.Nat.{_<_};
 ghost use Rattle.settings.specs.Settings.{ukrainianSettings, frenchSettings, ukrainianRanges, frenchRanges, within, inGender, inForm};
+ghost use Rattle.settings.specs.Packed.{settingsIn};
 
 // 01's numbers of a call's settings. A language leaves the fields that it does not have at 0.
 pub struct Settings {
@@ -99,5 +100,27 @@ pub fn in_form(number: u8, case: u8, settings: Settings) -> Settings
         case,
         reformed: settings.reformed,
         region: settings.region,
+    }
+}
+
+// These settings as one number, for a function that calls itself: a record by value is copied in memory for each call, a number stays in a register.
+pub fn packed(settings: Settings) -> u64
+    ensures { λ r. ⌜ settingsIn r ≡ settings ⌝ }
+{
+    let spelling = settings.reformed as u64 + 256 * settings.region as u64;
+    let form = settings.number as u64 + 256 * (settings.case as u64 + 256 * spelling);
+    settings.gender as u64 + 256 * form
+}
+
+// The settings that a number holds.
+pub fn unpacked(code: u64) -> Settings
+    ensures { λ r. ⌜ r ≡ settingsIn code ⌝ }
+{
+    Settings {
+        gender: (code % 256) as u8,
+        number: (code / 256 % 256) as u8,
+        case: (code / 256 / 256 % 256) as u8,
+        reformed: (code / 256 / 256 / 256 % 256) as u8,
+        region: (code / 256 / 256 / 256 / 256 % 256) as u8,
     }
 }

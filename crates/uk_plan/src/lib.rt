@@ -7,6 +7,7 @@ ghost use Prim.Native.Nat.{_+_, _-_, _*_, _≤_, _<_};
 ghost use lib.ListN.{length};
 ghost use lib.Dec.{eqb};
 ghost use Rattle.settings.specs.Settings.{ukrainianRanges, Within};
+ghost use Rattle.settings.specs.Packed.{settingsIn};
 ghost use Rattle.figures.specs.Groups.{total, Groups};
 ghost use Rattle.groups.specs.Highest.{ZeroFrom};
 ghost use Rattle.plan.specs.Phrase.{phrase};
@@ -100,7 +101,20 @@ fn group(settings: Settings, order: usize, g: u16, plan: &mut [u32], at: usize) 
     noun_word(settings, order, t, u, plan, b)
 }
 
-// Adds the words of a number's n lowest groups to a plan, from the highest down: each call has one order fewer.
+// The groups below order n, from the highest down: each call has one order fewer, and the settings as one number.
+fn groups(code: u64, n: usize, gs: &[u16; ORDERS], plan: &mut [u32], at: usize) -> usize
+    requires { ⌜ Within (ukrainianRanges (settingsIn code)) × (n ≤ 22) × (at + 5 * n ≤ length (now plan)) ⌝ }
+    ensures { λ r. ⌜ Told ukPool (5 * n) (now (plan .entry)) at (now (plan .exit)) r (listed (ukrainian (settingsIn code)) n (now (gs .entry))) ⌝ }
+{
+    if n == 0 {
+        return at;
+    }
+    let order = n - 1;
+    let k = group(settings::unpacked(code), order, gs[order], plan, at);
+    groups(code, order, gs, plan, k)
+}
+
+// Adds the words of a number's n lowest groups to a plan.
 pub fn say_groups(
     settings: Settings,
     n: usize,
@@ -111,12 +125,7 @@ pub fn say_groups(
     requires { ⌜ Within (ukrainianRanges settings) × (n ≤ 22) × (at + 5 * n ≤ length (now plan)) ⌝ }
     ensures { λ r. ⌜ Told ukPool (5 * n) (now (plan .entry)) at (now (plan .exit)) r (listed (ukrainian settings) n (now (gs .entry))) ⌝ }
 {
-    if n == 0 {
-        return at;
-    }
-    let order = n - 1;
-    let k = group(settings, order, gs[order], plan, at);
-    say_groups(settings, order, gs, plan, k)
+    groups(settings::packed(settings), n, gs, plan, at)
 }
 
 // The minus word, if negative.
