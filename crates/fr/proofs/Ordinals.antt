@@ -16,7 +16,7 @@ use Rattle.cardinals.specs.Grammar.{Falling, end, skip, group, Sentence, nought
 use Rattle.cardinals.proofs.Numbers.{sentence, spelled}
 use Rattle.fr.specs.Rules.{isReformed, isMille, frenchJoiner, hundredWords, tensWords, numberWords, scaleWords, frenchGroup, withoutE, nth, nthWords, french}
 use Rattle.fr.specs.Ordinal.{nthOf, nthPhrase}
-use Rattle.fr.specs.Grammar.{Nth, first, later, SaysNth}
+use Rattle.fr.specs.Grammar.{NthSentence, first, later, SaysNth}
 use Rattle.fr.proofs.Stems.{drop-last}
 
 -- an ending is the last part's
@@ -91,11 +91,11 @@ module _ (S : Settings) where
   unfolding nthPhrase nthOf french
   says-nth n h = record { words = nthOf S n; derives = go (eqb n 1) refl; plus = refl; bytes = refl }
     where
-      go : (t : Bool) → eqb n 1 ≡ t → Nth S (cond t (utf8 "premier" ∷ []) (nthWords (cardinalWords (french S) false n))) n
+      go : (t : Bool) → eqb n 1 ≡ t → NthSentence S (cond t (utf8 "premier" ∷ []) (nthWords (cardinalWords (french S) false n))) n
       go true e = rw (eqb-true n 1 e) first
       go false e = later (sentence (french S) false n h (λ z. refl)) (eqb-false n 1 e)
 
-  spelled-nth : {ws : List Word} {n : ℕ} → Nth S ws n → (n < 1000 ^ 34) × (nthOf S n ≡ ws)
+  spelled-nth : {ws : List Word} {n : ℕ} → NthSentence S ws n → (n < 1000 ^ 34) × (nthOf S n ≡ ws)
   unfolding nthOf french
   spelled-nth first = (lit< tt, refl)
   spelled-nth (later {n = n} w d) = let p = spelled (french S) w in (p .0, rw (ne-eqb n 1 d) (ap nthWords (p .1)))
