@@ -120,21 +120,21 @@ use mathlib.Core.List.{List, [], _∷_}
 
 def name(words, gender):
     if len(words) == 1:
-        return '(%s "%s" %s)' % ((gender,) + words[0])
+        return '(%s-name "%s" %s)' % ((gender,) + words[0])
     return '(%s-pair %s)' % (gender, ' '.join('"%s" %s' % w for w in words))
 
 
 def currencies_spec():
     out = ''
     for code in CODES:
-        main, fraction = [name(words[code], 'she' if code in feminines else 'he') for words, feminines in PARTS]
+        main, fraction = [name(words[code], 'feminine' if code in feminines else 'masculine') for words, feminines in PARTS]
         out += '    currency "%s" %s %s ∷\n' % (code, main, fraction)
     write('specs/Currencies.antt', '''-- The 44 currencies in from_str's order (01, "Ukrainian money"): their nouns are those of `currencies` and `currency_fraction` in uk.rs, their
 -- genders those of `currency_properties` and `currency_fraction_properties`.
 -- Assumes nothing.
 use Prim.Native.String.{String}
 use mathlib.Core.List.{List, [], _∷_}
-use Rattle.uk_money.specs.Nouns.{hard2, soft2, vowel1, hard1, adj, undeclined, hryvnia, kopiyka, Name, he, she, he-pair}
+use Rattle.uk_money.specs.Nouns.{hard2, soft2, vowel1, hard1, adj, undeclined, hryvnia, kopiyka, Name, masculine-name, feminine-name, masculine-pair}
 
 -- a currency: its code, and the names of its main unit and of its fraction
 pub record Currency : Type 0 where

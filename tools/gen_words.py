@@ -213,7 +213,7 @@ def fr_tables():
 
 def name_row(text):
     """The row of a unit's name: the places of its adjective's and its noun's stems, the noun's class and the gender."""
-    gender = int(text.startswith('she'))
+    gender = int(text.startswith('feminine'))
     words = re.findall(r'"([^"]*)" (\w+)', text)
     adjective = UK_POOL.place(words[0][0]) if len(words) == 2 else 0
     stem, kind = words[-1]

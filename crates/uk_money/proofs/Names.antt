@@ -17,7 +17,7 @@ use Rattle.base.proofs.Same.{same-is}
 use Rattle.tables.proofs.Tests.{all, all-at, both-hold}
 use Rattle.uk.specs.Pool.{ukPool}
 use Rattle.uk_money.specs.NounTables.{noun2stGroupHardDeclensions, noun2stGroupSoftDeclensions, noun1stGroupSoftDeclensionsVowel, noun1stGroupHardDeclensions, adjectiveHardMasculine, hryvnias, kopiykas}
-use Rattle.uk_money.specs.Nouns.{Name, hard2, he, endings, formOf, nameForms}
+use Rattle.uk_money.specs.Nouns.{Name, hard2, masculine-name, endings, formOf, nameForms}
 use Rattle.uk_money.specs.Currencies.{Currency, currency, currencies}
 use Rattle.uk_money.specs.Rows.{classAt, formsIn, Row, currencyAt}
 use Rattle.uk_money.proofs.Listed as places
@@ -31,7 +31,7 @@ toldIn row = (getD row 3 0, λ S. formsIn row (S .number) (S .case))
 
 -- what stands past the end of the currencies
 abbrev past : Currency
-past = currency "" (he "" hard2) (he "" hard2)
+past = currency "" (masculine-name "" hard2) (masculine-name "" hard2)
 
 -- the class and the gender of a row are in their ranges
 abbrev small : List ℕ → Bool

@@ -12,7 +12,7 @@ use Rattle.base.specs.Utf8.{utf8, form2}
 use Rattle.base.specs.Same.{sameText}
 use Rattle.words.specs.Part.{part}
 use Rattle.uk.specs.Pool.{ukPool}
-use Rattle.uk_money.specs.Nouns.{Class, hard2, soft2, vowel1, hard1, adj, undeclined, hryvnia, kopiyka, endings, Name, he, nameForms}
+use Rattle.uk_money.specs.Nouns.{Class, hard2, soft2, vowel1, hard1, adj, undeclined, hryvnia, kopiyka, endings, Name, masculine-name, nameForms}
 use Rattle.settings.specs.declared.Settings.{Settings}
 use Rattle.uk_money.specs.Currencies.{Currency, currency, currencies}
 
@@ -44,7 +44,7 @@ pub record Row (name : Name) (row : List ℕ) : Type 0 where
 
 -- the currency with a place in the list; what is past its end stands for none
 abbrev pub currencyAt : ℕ → Currency
-currencyAt place = getD currencies place (currency "" (he "" hard2) (he "" hard2))
+currencyAt place = getD currencies place (currency "" (masculine-name "" hard2) (masculine-name "" hard2))
 
 -- the place in a list of the currency with this code, from 0 on; the list's length where none has it
 unfoldable pub codePlaceIn : List Currency → List ℕ → ℕ
