@@ -120,8 +120,8 @@ use mathlib.Core.List.{List, [], _∷_}
 
 def name(words, gender):
     if len(words) == 1:
-        return '(%s-name "%s" %s)' % ((gender,) + words[0])
-    return '(%s-pair %s)' % (gender, ' '.join('"%s" %s' % w for w in words))
+        return '(%sName "%s" %s)' % ((gender,) + words[0])
+    return '(%sPair %s)' % (gender, ' '.join('"%s" %s' % w for w in words))
 
 
 def currencies_spec():
@@ -134,7 +134,7 @@ def currencies_spec():
 -- Assumes nothing.
 use Prim.Native.String.{String}
 use mathlib.Core.List.{List, [], _∷_}
-use Rattle.uk_money.specs.Nouns.{hard2, soft2, vowel1, hard1, adj, undeclined, hryvnia, kopiyka, Name, masculine-name, feminine-name, masculine-pair}
+use Rattle.uk_money.specs.Nouns.{hard2, soft2, vowel1, hard1, adj, undeclined, hryvnia, kopiyka, Name, masculineName, feminineName, masculinePair}
 
 -- a currency: its code, and the names of its main unit and of its fraction
 pub record Currency : Type 0 where

@@ -2,17 +2,11 @@
 -- Assumes nothing.
 use mathlib.Core.List.{List, [], _∷_, _++_}
 use Prim.Native.Nat.{ℕ}
+use Rattle.base.specs.Signs.{space}
 
 -- the bytes of a word
 abbrev pub Word : Type 0
 Word = List ℕ
-
--- the byte of a space, and of a hyphen
-abbrev pub space : ℕ
-space = 32
-
-abbrev pub hyphen : ℕ
-hyphen = 45
 
 -- words after others, each with the joiner j before it
 abbrev pub spacedBy : ℕ → List Word → List ℕ

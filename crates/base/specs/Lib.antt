@@ -1,4 +1,5 @@
 pub mod Utf8
+pub mod Signs
 pub mod Bytes
 pub mod Front
 pub mod Same

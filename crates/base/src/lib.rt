@@ -16,6 +16,12 @@ pub const WRONG_SETTING: u32 = 1;
 
 pub const WRONG_CODE: u32 = 2;
 
+pub const MALFORMED: u32 = 3;
+
+pub const WRONG_SIGN: u32 = 4;
+
+pub const TOO_LARGE: u32 = 5;
+
 pub const NO_SENTENCE: u32 = 6;
 
 pub const NO_ROOM: u32 = 7;

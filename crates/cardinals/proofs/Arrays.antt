@@ -10,7 +10,8 @@ use lib.ListN.{length, getD}
 use Rattle.base.specs.Join.{Word}
 use Rattle.figures.specs.Groups.{total, Groups}
 use Rattle.figures.proofs.Laws.Groups.{group-of}
-use Rattle.cardinals.specs.Cardinal.{Lexicon, groupOf, groupsBelow, signWords, cardinalWords}
+use Rattle.cardinals.specs.Lexicon.{Lexicon}
+use Rattle.cardinals.specs.Cardinal.{groupOf, groupsBelow, signWords, cardinalWords}
 use Rattle.cardinals.specs.Listed.{listed}
 use Rattle.cardinals.proofs.Numbers.{cardinal-some}
 

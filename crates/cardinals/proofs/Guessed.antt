@@ -11,7 +11,8 @@ use lib.Dec.{eqb}
 use Rattle.base.specs.Decides.{Decides}
 use Rattle.figures.specs.Groups.{total}
 use Rattle.figures.specs.Seen.{seenAs, seenOf, ReadOf}
-use Rattle.cardinals.specs.Cardinal.{Lexicon, cardinalWords, cardinalPhrase}
+use Rattle.cardinals.specs.Lexicon.{Lexicon}
+use Rattle.cardinals.specs.Cardinal.{cardinalWords, cardinalPhrase}
 use Rattle.cardinals.specs.Grammar.{Says}
 use Rattle.cardinals.proofs.Numbers.{says, said}
 

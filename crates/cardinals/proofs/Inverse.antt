@@ -22,7 +22,8 @@ use Rattle.figures.proofs.Laws.Groups.{hold}
 use Rattle.figures.proofs.Laws.Plain.{plain-digits}
 use Rattle.figures.proofs.Laws.Refusals.{passed, none-refused}
 use Rattle.figures.proofs.Laws.Sign.{formed-unsigned, zero-plain, number-size, number-is}
-use Rattle.cardinals.specs.Cardinal.{Lexicon, cardinalPhrase}
+use Rattle.cardinals.specs.Lexicon.{Lexicon}
+use Rattle.cardinals.specs.Cardinal.{cardinalPhrase}
 use Rattle.cardinals.specs.Grammar.{Says}
 use Rattle.cardinals.proofs.Numbers.{says, said}
 

@@ -8,7 +8,8 @@ use native.Mathlib.Nat.{pow-succ', one-le-pow, mod-one, mod-lt, mod-eq-of-lt}
 use native.Mathlib.Omega.{arith}
 use lib.Arith.{mod-mul, digits-lt, digits-div, digits-mod}
 use Rattle.base.specs.Join.{Word, joinedBy}
-use Rattle.cardinals.specs.Cardinal.{Lexicon, groupAt, groupOf, groupsBelow, signWords, cardinalWords, cardinalPhrase}
+use Rattle.cardinals.specs.Lexicon.{Lexicon}
+use Rattle.cardinals.specs.Cardinal.{groupAt, groupOf, groupsBelow, signWords, cardinalWords, cardinalPhrase}
 use Rattle.cardinals.specs.Grammar.{Falling, end, skip, group, Sentence, nought, unmarked, marked, Says}
 
 module _ (L : Lexicon) where

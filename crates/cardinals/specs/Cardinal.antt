@@ -4,15 +4,7 @@ use Prim.Native.Nat.{ℕ, zero, suc, _/_, _%_, _^_}
 use mathlib.Core.Bool.{Bool, true, false}
 use mathlib.Core.List.{List, [], _∷_, _++_}
 use Rattle.base.specs.Join.{Word, joinedBy}
-
--- what a language has for its cardinals: how many orders its numbers have, the byte between words, zero's word, the minus word, and the words of a
--- group of 1 to 999 at an order
-pub record Lexicon : Type 0 where
-  pub orders : ℕ
-  pub joiner : ℕ
-  pub zeroWord : Word
-  pub minusWord : Word
-  pub groupWords : ℕ → ℕ → List Word
+use Rattle.cardinals.specs.Lexicon.{Lexicon}
 
 -- the group of three digits of n at an order; "Order counts groups from 0"
 abbrev pub groupAt : ℕ → ℕ → ℕ

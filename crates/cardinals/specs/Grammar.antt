@@ -5,7 +5,7 @@ use mathlib.Core.Path.{_≡_}
 use mathlib.Core.Bool.{Bool, true, false}
 use mathlib.Core.List.{List, [], _∷_, _++_}
 use Rattle.base.specs.Join.{Word, joinedBy}
-use Rattle.cardinals.specs.Cardinal.{Lexicon}
+use Rattle.cardinals.specs.Lexicon.{Lexicon}
 
 -- "groups of strictly falling order" below k, each "for one of 1 to 999", and "the sum of its groups, each times 1000 to the power of its order"
 pub data Falling (L : Lexicon) : ℕ → List Word → ℕ → Type 0 where

@@ -1,3 +1,4 @@
+pub mod Lexicon
 pub mod Cardinal
 pub mod Grammar
 pub mod Listed

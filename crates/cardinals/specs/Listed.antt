@@ -4,7 +4,8 @@ use Prim.Native.Nat.{ℕ, zero, suc}
 use mathlib.Core.List.{List, [], _++_}
 use lib.ListN.{getD}
 use Rattle.base.specs.Join.{Word}
-use Rattle.cardinals.specs.Cardinal.{Lexicon, groupOf}
+use Rattle.cardinals.specs.Lexicon.{Lexicon}
+use Rattle.cardinals.specs.Cardinal.{groupOf}
 
 -- the words of the groups gs below an order, from the highest down
 unfoldable pub listed : Lexicon → ℕ → List ℕ → List Word

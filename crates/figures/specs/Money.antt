@@ -5,11 +5,12 @@ use mathlib.Core.Bool.{Bool, cond, not, _&&_}
 use mathlib.Core.List.{List, []}
 use lib.Dec.{leb, eqb}
 use lib.ListN.{length, getD, take, drop}
+use Rattle.base.specs.Signs.{point}
 use Rattle.figures.specs.Text.{digits, plain, value, unsigned, wellFormed}
 
 -- a '.' stands before the last two bytes
 abbrev pub pointed : List ℕ → Bool
-pointed xs = leb 3 (length xs) && eqb (getD xs (length xs - 3) 0) 46
+pointed xs = leb 3 (length xs) && eqb (getD xs (length xs - 3) 0) point
 
 -- what stands before the '.', with the sign
 abbrev pub wholeText : List ℕ → List ℕ

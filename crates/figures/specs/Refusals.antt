@@ -11,15 +11,6 @@ use Rattle.base.specs.Answer.{malformed, wrongSign, tooLarge, firstOf}
 use Rattle.figures.specs.Text.{value, negative, unsigned, wellFormed}
 use Rattle.figures.specs.Money.{wholeOf, moneyFormed, moneyLimit}
 use Rattle.figures.specs.Year.{yearLimit}
-use Rattle.figures.specs.declared.Judged.{Judged}
-use Rattle.figures.specs.declared.Judged.the-variants.{Fine, Malformed, Negative, Large}
-
--- 01's number of each of the code's answers, 0 for none
-abbrev pub refusalOf : Judged → ℕ
-refusalOf Fine = 0
-refusalOf Malformed = malformed
-refusalOf Negative = wrongSign
-refusalOf Large = tooLarge
 
 -- of a cardinal's text, of at most so many digits: 66 in Ukrainian, 102 in French
 abbrev pub cardinalRefusals : ℕ → List ℕ → List (Bool × ℕ)

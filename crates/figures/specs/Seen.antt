@@ -5,13 +5,14 @@ use Prim.Native.Nat.{ℕ}
 use mathlib.Core.Path.{_≡_}
 use mathlib.Core.Bool.{Bool, true, false, cond}
 use mathlib.Core.List.{List}
+use Rattle.base.specs.Answer.{noSentence}
 use Rattle.figures.specs.Groups.{total}
 use Rattle.figures.specs.declared.Seen.{Seen}
 use Rattle.figures.specs.declared.Seen.the-variants.{Refused, Plain, Negative}
 
 -- 01's number of each answer
 abbrev pub seenNumber : Seen → ℕ
-seenNumber Refused = 6
+seenNumber Refused = noSentence
 seenNumber Plain = 0
 seenNumber Negative = 0
 
@@ -28,5 +29,5 @@ seenOf stands zero minus = cond stands (seenAs (cond zero false minus)) Refused
 pub record ReadOf (Says : Bool → ℕ → Type 0) (r : Seen) (gs : List ℕ) : Type 0 where
   -- a sentence is read with its sign and its groups
   pub reads : (minus : Bool) (n : ℕ) → Says minus n → (r ≡ seenAs minus) × (total gs ≡ n)
-  -- bytes that are none are refused, with 6
-  pub refuses : ((minus : Bool) (n : ℕ) → Says minus n → ⊥) → seenNumber r ≡ 6
+  -- bytes that are none are refused
+  pub refuses : ((minus : Bool) (n : ℕ) → Says minus n → ⊥) → seenNumber r ≡ noSentence

@@ -12,8 +12,8 @@ ghost use mathlib.Core.Bool.{true, false, not};
 ghost use lib.Dec.{leb, ltb};
 ghost use Rattle.base.specs.Answer.{firstOf};
 ghost use Rattle.figures.specs.Text.{plain, value};
-ghost use Rattle.figures.specs.Refusals.{refusalOf, cardinalRefusals, ordinalRefusals, digitOrdinalRefusals, amountRefusals, yearRefusals};
-ghost use Rattle.figures.specs.Judging.{judged};
+ghost use Rattle.figures.specs.Refusals.{cardinalRefusals, ordinalRefusals, digitOrdinalRefusals, amountRefusals, yearRefusals};
+ghost use Rattle.figures.specs.Judging.{refusalOf, judged};
 
 // 01's number of what is refused, 0 for nothing.
 pub fn number_of(j: Judged) -> u32
@@ -21,9 +21,9 @@ pub fn number_of(j: Judged) -> u32
 {
     match j {
         Judged::Fine => 0,
-        Judged::Malformed => 3,
-        Judged::Negative => 4,
-        Judged::Large => 5,
+        Judged::Malformed => base::MALFORMED,
+        Judged::Negative => base::WRONG_SIGN,
+        Judged::Large => base::TOO_LARGE,
     }
 }
 

@@ -6,7 +6,7 @@ use mathlib.Core.Bool.{true, false, not, and-true, and-false}
 use native.Mathlib.Omega.{arith}
 use borrow.Author.Tests.{eq-eqb, ne-eqb}
 use lib.Dec.{eqb}
-use Rattle.base.specs.Join.{space, hyphen}
+use Rattle.base.specs.Signs.{space, hyphen}
 use Rattle.settings.specs.Settings.{feminine}
 use Rattle.settings.specs.declared.Settings.{Settings}
 use Rattle.fr.specs.Rules.{isFeminine, isLowest, isMille, frenchJoiner, countsOn, fourTwenties, takesEt, isUne}

@@ -9,7 +9,8 @@ use borrow.Author.Tests.{eqb-true, eqb-false, ne-eqb}
 use lib.Dec.{eqb, lit<}
 use lib.ListN.{length, length-append}
 use Rattle.base.specs.Utf8.{utf8}
-use Rattle.base.specs.Join.{Word, space, hyphen, spacedBy, joinedBy}
+use Rattle.base.specs.Join.{Word, spacedBy, joinedBy}
+use Rattle.base.specs.Signs.{space, hyphen}
 use Rattle.settings.specs.declared.Settings.{Settings}
 use Rattle.cardinals.specs.Cardinal.{cardinalWords, cardinalPhrase}
 use Rattle.cardinals.specs.Grammar.{Falling, end, skip, group, Sentence, nought, unmarked, marked}

@@ -9,7 +9,8 @@ use borrow.Author.Tests.{eq-eqb, ne-eqb, eqb-true, not-true}
 use lib.Dec.{T, eqb}
 use lib.ListN.{length, getD, length-take, length-drop}
 use Rattle.base.specs.Utf8.{utf8, form1}
-use Rattle.base.specs.Join.{Word, space, hyphen}
+use Rattle.base.specs.Join.{Word}
+use Rattle.base.specs.Signs.{space, hyphen}
 use Rattle.settings.specs.declared.Settings.{Settings}
 use Rattle.words.specs.Part.{part}
 use Rattle.fr.specs.Pool.{frPool}

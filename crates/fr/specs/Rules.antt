@@ -6,10 +6,11 @@ use mathlib.Core.Bool.{Bool, true, false, cond, not, _&&_, _||_}
 use mathlib.Core.List.{List, [], _∷_, _++_}
 use lib.Dec.{eqb}
 use Rattle.base.specs.Utf8.{utf8, form1}
-use Rattle.base.specs.Join.{Word, space, hyphen}
+use Rattle.base.specs.Join.{Word}
+use Rattle.base.specs.Signs.{space, hyphen, letterE}
 use Rattle.settings.specs.Settings.{feminine}
 use Rattle.settings.specs.declared.Settings.{Settings}
-use Rattle.cardinals.specs.Cardinal.{Lexicon}
+use Rattle.cardinals.specs.Lexicon.{Lexicon}
 use Rattle.fr.specs.FrTables.{units, tens, teens, megas}
 
 -- the feminine is spoken
@@ -124,7 +125,7 @@ frenchGroup S order g = cond (isMille order && eqb g 1) [] (numberWords S order 
 -- "Ordinal: .. a final `e` dropped": a text without it
 unfoldable pub withoutE : List ℕ → List ℕ
 withoutE [] = []
-withoutE (b ∷ []) = cond (eqb b 101) [] (b ∷ [])
+withoutE (b ∷ []) = cond (eqb b letterE) [] (b ∷ [])
 withoutE (b ∷ c ∷ s) = b ∷ withoutE (c ∷ s)
 
 -- "then `ième`": the ordinal's last word from the cardinal's

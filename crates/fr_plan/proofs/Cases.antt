@@ -10,7 +10,8 @@ use lib.Dec.{eqb}
 use lib.ListN.{length, getD}
 use Rattle.tables.proofs.Tests.{both-hold}
 use Rattle.base.specs.Utf8.{utf8, form1}
-use Rattle.base.specs.Join.{Word, space, hyphen, spacedBy}
+use Rattle.base.specs.Join.{Word, spacedBy}
+use Rattle.base.specs.Signs.{space, hyphen}
 use Rattle.settings.specs.declared.Settings.{Settings}
 use Rattle.figures.specs.Groups.{total}
 use Rattle.figures.proofs.Laws.Groups.{total-lt}

@@ -10,7 +10,7 @@ use borrow.Author.Tests.{eqb-true}
 use lib.Arith.{mod-mul}
 use lib.Dec.{eqb}
 use lib.ListN.{length}
-use Rattle.base.specs.Join.{space, hyphen}
+use Rattle.base.specs.Signs.{space, hyphen}
 use Rattle.settings.specs.Settings.{frenchRanges, Within}
 use Rattle.settings.specs.declared.Settings.{Settings}
 use Rattle.figures.specs.Groups.{total}

@@ -8,6 +8,7 @@ use lib.ListN.{length}
 use mathlib.Core.Option.{Option, none, some}
 use Rattle.base.specs.Answer.{Spelling, firstOf}
 use Rattle.base.specs.Join.{Word}
+use Rattle.base.specs.Signs.{lineFeed, digitZero}
 use Rattle.base.specs.Utf8.{utf8}
 use Rattle.settings.specs.Settings.{ukrainianSettings, frenchSettings, ukrainianRanges, frenchRanges, within}
 use Rattle.settings.specs.Refused.{outOfRange}
@@ -26,15 +27,15 @@ use Rattle.phrases_forms.specs.declared.Language.the-variants.{Ukrainian, Frenc
 
 -- the number text of a number below 100: a refusal's
 abbrev pub numeral : ℕ → List ℕ
-numeral n = cond (ltb n 10) ((48 + n) ∷ []) ((48 + n / 10) ∷ (48 + n % 10) ∷ [])
+numeral n = cond (ltb n 10) ((digitZero + n) ∷ []) ((digitZero + n / 10) ∷ (digitZero + n % 10) ∷ [])
 
 -- "the phrase, `refused` and a number": the line of the refusal n, or where n is 0 of the phrase
 abbrev pub lineOf : ℕ → List ℕ → List ℕ
-lineOf n phrase = cond (eqb n 0) (phrase ++ (10 ∷ [])) (utf8 "refused " ++ (numeral n ++ (10 ∷ [])))
+lineOf n phrase = cond (eqb n 0) (phrase ++ (lineFeed ∷ [])) (utf8 "refused " ++ (numeral n ++ (lineFeed ∷ [])))
 
 -- "Every other line, also an empty one, is a `bad line`"
 abbrev pub badLine : List ℕ
-badLine = utf8 "bad line" ++ (10 ∷ [])
+badLine = utf8 "bad line" ++ (lineFeed ∷ [])
 
 -- what is written to a form of a call, and to what is no form
 abbrev pub answerTo : Option Spelling → List ℕ

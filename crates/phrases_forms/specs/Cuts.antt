@@ -7,17 +7,18 @@ use lib.Dec.{eqb}
 use mathlib.Core.Option.{Option, none, some}
 use Rattle.base.specs.Answer.{Spelling}
 use Rattle.base.specs.Join.{Word}
+use Rattle.base.specs.Signs.{space}
 use Rattle.phrases_forms.specs.Line.{run, inner, closed}
 
 -- the first word of a line, up to its first space
 unfoldable pub nextWord : List ℕ → Word
 nextWord [] = []
-nextWord (b ∷ s) = cond (eqb b 32) [] (b ∷ nextWord s)
+nextWord (b ∷ s) = cond (eqb b space) [] (b ∷ nextWord s)
 
 -- what stands behind the first space; nothing where there is none
 unfoldable pub afterSpace : List ℕ → List ℕ
 afterSpace [] = []
-afterSpace (b ∷ s) = cond (eqb b 32) s (afterSpace s)
+afterSpace (b ∷ s) = cond (eqb b space) s (afterSpace s)
 
 -- a text and the bracket that closes the form are left
 abbrev pub textLeft : (List ℕ → Spelling) → List ℕ → Option Spelling

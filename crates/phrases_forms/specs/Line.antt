@@ -9,7 +9,8 @@ use lib.ListN.{length, getD, take}
 use mathlib.Core.Option.{Option, none, some}
 use Rattle.base.specs.Answer.{Spelling}
 use Rattle.base.specs.Divide.{divided}
-use Rattle.base.specs.Join.{Word, space}
+use Rattle.base.specs.Join.{Word}
+use Rattle.base.specs.Signs.{space, openingBracket, closingBracket}
 use Rattle.base.specs.Utf8.{utf8}
 use Rattle.base.specs.Same.{sameText}
 use Rattle.phrases_forms.specs.declared.Kind.{Kind}
@@ -66,7 +67,7 @@ regionOf w = namePlace ("FR)" ∷ "BE)" ∷ "CH)" ∷ []) w
 -- no space and no bracket
 abbrev pub free : List ℕ → Bool
 free [] = true
-free (b ∷ s) = (not (eqb b 32) && (not (eqb b 40) && not (eqb b 41))) && free s
+free (b ∷ s) = (not (eqb b space) && (not (eqb b openingBracket) && not (eqb b closingBracket))) && free s
 
 -- "runs of one or more bytes other than space and bracket"
 abbrev pub run : List ℕ → Bool
@@ -78,7 +79,7 @@ inner s = take (length s - 1) s
 
 -- whether that is a run, and the last byte the bracket that closes the form
 abbrev pub closed : List ℕ → Bool
-closed s = run (inner s) && eqb (getD s (length s - 1) 0) 41
+closed s = run (inner s) && eqb (getD s (length s - 1) 0) closingBracket
 
 -- the last words of a form whose call takes a text: the text, with the bracket that closes the form
 abbrev pub textForm : (List ℕ → Spelling) → List Word → Option Spelling

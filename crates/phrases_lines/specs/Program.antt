@@ -6,11 +6,12 @@ use mathlib.Core.Bool.{Bool, true, not, _&&_}
 use mathlib.Core.List.{List, [], _∷_, _++_}
 use lib.Dec.{eqb}
 use Rattle.base.specs.Divide.{divided}
+use Rattle.base.specs.Signs.{lineFeed}
 use Rattle.phrases_answers.specs.Answers.{answerLine}
 
 -- what line feeds ("byte 10") divide: the lines, and at last what is behind them all
 abbrev pub parts : List ℕ → List (List ℕ)
-parts s = divided 10 s
+parts s = divided lineFeed s
 
 -- "the last line may lack its line end": what is behind the last line feed is a line unless it is nothing
 abbrev pub lastAnswer : List ℕ → List ℕ
@@ -30,7 +31,7 @@ program s = answers (parts s)
 -- no line feed stands in a line
 unfoldable pub isLine : List ℕ → Bool
 isLine [] = true
-isLine (b ∷ s) = not (eqb b 10) && isLine s
+isLine (b ∷ s) = not (eqb b lineFeed) && isLine s
 
 -- the line so far p and then the bytes of a block came in, w was written, and the line so far is q: whatever follows, what was written and what will
 -- be is the answer to all of it

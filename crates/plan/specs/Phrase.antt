@@ -2,6 +2,7 @@
 -- Assumes nothing.
 use Prim.Native.Nat.{ℕ, zero, suc}
 use mathlib.Core.List.{List, [], _∷_, _++_}
+use Rattle.base.specs.Signs.{space, hyphen}
 
 -- a separator, a byte or 0 for none, and a text
 abbrev pub Piece : Type 0
@@ -9,13 +10,13 @@ Piece = ℕ × List ℕ
 
 -- a word of its own; one that runs on; one after a hyphen
 abbrev pub word : List ℕ → Piece
-word b = (32, b)
+word b = (space, b)
 
 abbrev pub on : List ℕ → Piece
 on b = (0, b)
 
 abbrev pub hyphened : List ℕ → Piece
-hyphened b = (45, b)
+hyphened b = (hyphen, b)
 
 -- what a separator says
 abbrev pub gap : ℕ → List ℕ

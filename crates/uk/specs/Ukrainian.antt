@@ -5,11 +5,12 @@ use Prim.Native.Nat.{ℕ, zero, suc, _-_, _/_, _%_}
 use mathlib.Core.Bool.{Bool, cond, _&&_, _||_}
 use mathlib.Core.List.{List, [], _∷_, _++_}
 use lib.Dec.{eqb, ltb}
-use Rattle.base.specs.Join.{Word, space}
+use Rattle.base.specs.Join.{Word}
+use Rattle.base.specs.Signs.{space}
 use Rattle.base.specs.Utf8.{utf8, form1, form2, form3}
 use Rattle.settings.specs.Settings.{masculine, feminine, singular, plural, nominative, genitive, inGender, inForm}
 use Rattle.settings.specs.declared.Settings.{Settings}
-use Rattle.cardinals.specs.Cardinal.{Lexicon}
+use Rattle.cardinals.specs.Lexicon.{Lexicon}
 use Rattle.uk.specs.UkTables.{zeros, gendered, units, teensBases, teensFlexions, tens, hundreds, thousandFlexions, megaBases, megaFlexions}
 use Rattle.uk.specs.Rules.{DigitWords, numWords}
 
@@ -70,10 +71,14 @@ unfoldable pub ukrainianGroup : Settings → ℕ → ℕ → List Word
 ukrainianGroup S order g =
     numWords (ukrainianDigits (atOrder order S)) (g / 100 % 10) (g / 10 % 10) (g % 10) ++ nounWords S order (g / 10 % 10) (g % 10)
 
--- what Ukrainian has for its cardinals: 22 orders ("Number texts"), words joined by a space, zero and minus
+-- how many orders its numbers have: those of 66 digits ("Number texts")
+abbrev pub ukrainianOrders : ℕ
+ukrainianOrders = 22
+
+-- what Ukrainian has for its cardinals: its orders, words joined by a space, zero and minus
 unfoldable pub ukrainian : Settings → Lexicon
 ukrainian S = record {
-  orders = 22;
+  orders = ukrainianOrders;
   joiner = space;
   zeroWord = form1 zeros (S .case);
   minusWord = utf8 "мінус";

@@ -10,10 +10,9 @@ use lib.ListN.{length, getD}
 use mathlib.Core.Option.{none, some, Option·some-injective, Option·none-ne-some}
 use Rattle.base.specs.Utf8.{utf8}
 use Rattle.base.specs.Same.{sameText}
-use Rattle.uk_money.specs.Nouns.{hard2, masculine-name}
-use Rattle.uk_money.specs.Currencies.{Currency, currency, currencies}
+use Rattle.uk_money.specs.Currencies.{Currency, currencies}
 use Rattle.uk_money.specs.Codes.{currencyIn, currencyOf}
-use Rattle.uk_money.specs.Rows.{codePlaceIn, codePlace, currencyAt}
+use Rattle.uk_money.specs.Rows.{codePlaceIn, codePlace, past, currencyAt}
 
 module _ (code : List ℕ) where
   some-in : (cs : List Currency) (d : Currency) → codePlaceIn cs code < length cs → currencyIn cs code ≡ some (getD cs (codePlaceIn cs code) d)
@@ -39,7 +38,7 @@ module _ (code : List ℕ) where
 
   pub known-code : codePlace code < 44 → currencyOf code ≡ some (currencyAt (codePlace code))
   unfolding currencies
-  known-code h = some-in currencies (currency "" (masculine-name "" hard2) (masculine-name "" hard2)) h
+  known-code h = some-in currencies past h
 
   pub unknown-code : 44 ≤ codePlace code → currencyOf code ≡ none
   unfolding currencies

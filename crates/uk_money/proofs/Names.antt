@@ -17,9 +17,9 @@ use Rattle.base.proofs.Same.{same-is}
 use Rattle.tables.proofs.Tests.{all, all-at, both-hold}
 use Rattle.uk.specs.Pool.{ukPool}
 use Rattle.uk_money.specs.NounTables.{noun2stGroupHardDeclensions, noun2stGroupSoftDeclensions, noun1stGroupSoftDeclensionsVowel, noun1stGroupHardDeclensions, adjectiveHardMasculine, hryvnias, kopiykas}
-use Rattle.uk_money.specs.Nouns.{Name, hard2, masculine-name, endings, formOf, nameForms}
-use Rattle.uk_money.specs.Currencies.{Currency, currency, currencies}
-use Rattle.uk_money.specs.Rows.{classAt, formsIn, Row, currencyAt}
+use Rattle.uk_money.specs.Nouns.{Name, endings, formOf, nameForms}
+use Rattle.uk_money.specs.Currencies.{Currency, currencies}
+use Rattle.uk_money.specs.Rows.{classAt, formsIn, Row, past, currencyAt}
 use Rattle.uk_money.proofs.Listed as places
 
 -- a name's gender and words, and those of a row
@@ -28,10 +28,6 @@ told name = (name .gender, λ S. nameForms S name)
 
 abbrev toldIn : List ℕ → ℕ × (Settings → List Word)
 toldIn row = (getD row 3 0, λ S. formsIn row (S .number) (S .case))
-
--- what stands past the end of the currencies
-abbrev past : Currency
-past = currency "" (masculine-name "" hard2) (masculine-name "" hard2)
 
 -- the class and the gender of a row are in their ranges
 abbrev small : List ℕ → Bool

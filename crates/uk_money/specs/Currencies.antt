@@ -3,7 +3,7 @@
 -- Assumes nothing.
 use Prim.Native.String.{String}
 use mathlib.Core.List.{List, [], _∷_}
-use Rattle.uk_money.specs.Nouns.{hard2, soft2, vowel1, hard1, adj, undeclined, hryvnia, kopiyka, Name, masculine-name, feminine-name, masculine-pair}
+use Rattle.uk_money.specs.Nouns.{hard2, soft2, vowel1, hard1, adj, undeclined, hryvnia, kopiyka, Name, masculineName, feminineName, masculinePair}
 
 -- a currency: its code, and the names of its main unit and of its fraction
 pub record Currency : Type 0 where
@@ -18,47 +18,47 @@ currency code main fraction = record { code = code; main = main; fraction = frac
 -- all 44, in from_str's order
 unfoldable pub currencies : List Currency
 currencies =
-    currency "AED" (masculine-name "дирхам" hard2) (masculine-name "філс" hard2) ∷
-    currency "ARS" (masculine-name "песо" undeclined) (masculine-name "сентаво" undeclined) ∷
-    currency "AUD" (masculine-name "долар" hard2) (masculine-name "цент" hard2) ∷
-    currency "BRL" (masculine-name "реал" hard2) (masculine-name "сентаво" undeclined) ∷
-    currency "CAD" (masculine-name "долар" hard2) (masculine-name "цент" hard2) ∷
-    currency "CHF" (masculine-name "франк" hard2) (masculine-name "сантим" hard2) ∷
-    currency "CLP" (masculine-name "песо" undeclined) (masculine-name "сентаво" undeclined) ∷
-    currency "CNY" (masculine-name "юан" soft2) (masculine-name "фен" soft2) ∷
-    currency "COP" (masculine-name "песо" undeclined) (masculine-name "сентаво" undeclined) ∷
-    currency "CRC" (masculine-name "колон" hard2) (masculine-name "сантимо" undeclined) ∷
-    currency "DINAR" (masculine-name "динар" hard2) (masculine-name "філс" hard2) ∷
-    currency "DOLLAR" (masculine-name "долар" hard2) (masculine-name "цент" hard2) ∷
-    currency "DZD" (masculine-name "динар" hard2) (masculine-name "філс" hard2) ∷
-    currency "EUR" (masculine-name "євро" undeclined) (masculine-name "євроцент" hard2) ∷
-    currency "GBP" (masculine-name "фунт" hard2) (masculine-name "пенс" hard2) ∷
-    currency "HKD" (masculine-name "долар" hard2) (masculine-name "цент" hard2) ∷
-    currency "IDR" (masculine-name "рупі" vowel1) (masculine-name "сен" hard2) ∷
-    currency "ILS" (masculine-pair "нов" adj "шекел" soft2) (feminine-name "агор" hard1) ∷
-    currency "INR" (feminine-name "рупі" vowel1) (masculine-name "пайс" hard2) ∷
-    currency "JPY" (feminine-name "єн" hard1) (masculine-name "сен" hard2) ∷
-    currency "KRW" (feminine-name "вон" hard1) (masculine-name "чон" hard2) ∷
-    currency "KWD" (masculine-name "динар" hard2) (masculine-name "філс" hard2) ∷
-    currency "KZT" (masculine-name "tenge" undeclined) (masculine-name "тиїн" hard2) ∷
-    currency "MXN" (masculine-name "песо" undeclined) (masculine-name "сентаво" undeclined) ∷
-    currency "MYR" (masculine-name "рингіт" hard2) (masculine-name "сен" hard2) ∷
-    currency "NOK" (feminine-name "крон" hard1) (masculine-name "оре" undeclined) ∷
-    currency "NZD" (masculine-name "долар" hard2) (masculine-name "цент" hard2) ∷
-    currency "PEN" (masculine-name "сол" soft2) (masculine-name "сентімо" undeclined) ∷
-    currency "PESO" (masculine-name "песо" undeclined) (masculine-name "сентаво" undeclined) ∷
-    currency "PHP" (masculine-name "песо" undeclined) (masculine-name "сентаво" undeclined) ∷
-    currency "PLN" (masculine-name "злот" adj) (masculine-name "грош" hard2) ∷
-    currency "QAR" (masculine-name "ріал" hard2) (masculine-name "філс" hard2) ∷
-    currency "RIYAL" (masculine-name "ріал" hard2) (masculine-name "філс" hard2) ∷
-    currency "RUB" (masculine-name "рубл" vowel1) (feminine-name "копійк" hard1) ∷
-    currency "SAR" (masculine-name "ріал" hard2) (masculine-name "філс" hard2) ∷
-    currency "SGD" (masculine-name "долар" hard2) (masculine-name "цент" hard2) ∷
-    currency "THB" (masculine-name "бат" hard2) (masculine-name "cатанг" hard2) ∷
-    currency "TRY" (feminine-name "куруш" hard1) (feminine-name "лір" hard1) ∷
-    currency "TWD" (masculine-name "долар" hard2) (masculine-name "цент" hard2) ∷
-    currency "UAH" (feminine-name "" hryvnia) (feminine-name "" kopiyka) ∷
-    currency "USD" (masculine-name "долар" hard2) (masculine-name "цент" hard2) ∷
-    currency "UYU" (masculine-name "песо" undeclined) (masculine-name "сентаво" undeclined) ∷
-    currency "VND" (masculine-name "донг" hard2) (masculine-name "су" undeclined) ∷
-    currency "ZAR" (masculine-name "ранд" hard2) (masculine-name "цент" hard2) ∷ []
+    currency "AED" (masculineName "дирхам" hard2) (masculineName "філс" hard2) ∷
+    currency "ARS" (masculineName "песо" undeclined) (masculineName "сентаво" undeclined) ∷
+    currency "AUD" (masculineName "долар" hard2) (masculineName "цент" hard2) ∷
+    currency "BRL" (masculineName "реал" hard2) (masculineName "сентаво" undeclined) ∷
+    currency "CAD" (masculineName "долар" hard2) (masculineName "цент" hard2) ∷
+    currency "CHF" (masculineName "франк" hard2) (masculineName "сантим" hard2) ∷
+    currency "CLP" (masculineName "песо" undeclined) (masculineName "сентаво" undeclined) ∷
+    currency "CNY" (masculineName "юан" soft2) (masculineName "фен" soft2) ∷
+    currency "COP" (masculineName "песо" undeclined) (masculineName "сентаво" undeclined) ∷
+    currency "CRC" (masculineName "колон" hard2) (masculineName "сантимо" undeclined) ∷
+    currency "DINAR" (masculineName "динар" hard2) (masculineName "філс" hard2) ∷
+    currency "DOLLAR" (masculineName "долар" hard2) (masculineName "цент" hard2) ∷
+    currency "DZD" (masculineName "динар" hard2) (masculineName "філс" hard2) ∷
+    currency "EUR" (masculineName "євро" undeclined) (masculineName "євроцент" hard2) ∷
+    currency "GBP" (masculineName "фунт" hard2) (masculineName "пенс" hard2) ∷
+    currency "HKD" (masculineName "долар" hard2) (masculineName "цент" hard2) ∷
+    currency "IDR" (masculineName "рупі" vowel1) (masculineName "сен" hard2) ∷
+    currency "ILS" (masculinePair "нов" adj "шекел" soft2) (feminineName "агор" hard1) ∷
+    currency "INR" (feminineName "рупі" vowel1) (masculineName "пайс" hard2) ∷
+    currency "JPY" (feminineName "єн" hard1) (masculineName "сен" hard2) ∷
+    currency "KRW" (feminineName "вон" hard1) (masculineName "чон" hard2) ∷
+    currency "KWD" (masculineName "динар" hard2) (masculineName "філс" hard2) ∷
+    currency "KZT" (masculineName "tenge" undeclined) (masculineName "тиїн" hard2) ∷
+    currency "MXN" (masculineName "песо" undeclined) (masculineName "сентаво" undeclined) ∷
+    currency "MYR" (masculineName "рингіт" hard2) (masculineName "сен" hard2) ∷
+    currency "NOK" (feminineName "крон" hard1) (masculineName "оре" undeclined) ∷
+    currency "NZD" (masculineName "долар" hard2) (masculineName "цент" hard2) ∷
+    currency "PEN" (masculineName "сол" soft2) (masculineName "сентімо" undeclined) ∷
+    currency "PESO" (masculineName "песо" undeclined) (masculineName "сентаво" undeclined) ∷
+    currency "PHP" (masculineName "песо" undeclined) (masculineName "сентаво" undeclined) ∷
+    currency "PLN" (masculineName "злот" adj) (masculineName "грош" hard2) ∷
+    currency "QAR" (masculineName "ріал" hard2) (masculineName "філс" hard2) ∷
+    currency "RIYAL" (masculineName "ріал" hard2) (masculineName "філс" hard2) ∷
+    currency "RUB" (masculineName "рубл" vowel1) (feminineName "копійк" hard1) ∷
+    currency "SAR" (masculineName "ріал" hard2) (masculineName "філс" hard2) ∷
+    currency "SGD" (masculineName "долар" hard2) (masculineName "цент" hard2) ∷
+    currency "THB" (masculineName "бат" hard2) (masculineName "cатанг" hard2) ∷
+    currency "TRY" (feminineName "куруш" hard1) (feminineName "лір" hard1) ∷
+    currency "TWD" (masculineName "долар" hard2) (masculineName "цент" hard2) ∷
+    currency "UAH" (feminineName "" hryvnia) (feminineName "" kopiyka) ∷
+    currency "USD" (masculineName "долар" hard2) (masculineName "цент" hard2) ∷
+    currency "UYU" (masculineName "песо" undeclined) (masculineName "сентаво" undeclined) ∷
+    currency "VND" (masculineName "донг" hard2) (masculineName "су" undeclined) ∷
+    currency "ZAR" (masculineName "ранд" hard2) (masculineName "цент" hard2) ∷ []

@@ -52,14 +52,14 @@ pub record Name : Type 0 where
   pub words : List Noun
 
 -- a masculine noun as a name; a feminine one; a masculine adjective and noun
-abbrev pub masculine-name : String → Class → Name
-masculine-name stem class = record { gender = masculine; words = noun stem class ∷ [] }
+abbrev pub masculineName : String → Class → Name
+masculineName stem class = record { gender = masculine; words = noun stem class ∷ [] }
 
-abbrev pub feminine-name : String → Class → Name
-feminine-name stem class = record { gender = feminine; words = noun stem class ∷ [] }
+abbrev pub feminineName : String → Class → Name
+feminineName stem class = record { gender = feminine; words = noun stem class ∷ [] }
 
-abbrev pub masculine-pair : String → Class → String → Class → Name
-masculine-pair s c t d = record { gender = masculine; words = noun s c ∷ noun t d ∷ [] }
+abbrev pub masculinePair : String → Class → String → Class → Name
+masculinePair s c t d = record { gender = masculine; words = noun s c ∷ noun t d ∷ [] }
 
 -- the words of a name in a grammatical number and case
 unfoldable pub nameForms : Settings → Name → List Word

@@ -12,7 +12,7 @@ use Rattle.base.specs.Utf8.{utf8, form2}
 use Rattle.base.specs.Same.{sameText}
 use Rattle.words.specs.Part.{part}
 use Rattle.uk.specs.Pool.{ukPool}
-use Rattle.uk_money.specs.Nouns.{Class, hard2, soft2, vowel1, hard1, adj, undeclined, hryvnia, kopiyka, endings, Name, masculine-name, nameForms}
+use Rattle.uk_money.specs.Nouns.{Class, hard2, soft2, vowel1, hard1, adj, undeclined, hryvnia, kopiyka, endings, Name, masculineName, nameForms}
 use Rattle.settings.specs.declared.Settings.{Settings}
 use Rattle.uk_money.specs.Currencies.{Currency, currency, currencies}
 
@@ -42,9 +42,13 @@ pub record Row (name : Name) (row : List ℕ) : Type 0 where
   pub classes : getD row 2 0 < 8
   pub genders : getD row 3 0 < 3
 
--- the currency with a place in the list; what is past its end stands for none
+-- what stands past the end of the currencies
+abbrev pub past : Currency
+past = currency "" (masculineName "" hard2) (masculineName "" hard2)
+
+-- the currency with a place in the list
 abbrev pub currencyAt : ℕ → Currency
-currencyAt place = getD currencies place (currency "" (masculine-name "" hard2) (masculine-name "" hard2))
+currencyAt place = getD currencies place past
 
 -- the place in a list of the currency with this code, from 0 on; the list's length where none has it
 unfoldable pub codePlaceIn : List Currency → List ℕ → ℕ

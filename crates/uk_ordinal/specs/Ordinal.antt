@@ -11,7 +11,7 @@ use Rattle.settings.specs.declared.Settings.{Settings}
 use Rattle.cardinals.specs.Cardinal.{groupAt, groupsBelow}
 use Rattle.uk.specs.UkTables.{teensBases, megaBases}
 use Rattle.uk.specs.Rules.{DigitWords, opt, numWords}
-use Rattle.uk.specs.Ukrainian.{unitForm, ukrainianDigits, ukrainian}
+use Rattle.uk.specs.Ukrainian.{unitForm, ukrainianDigits, ukrainianOrders, ukrainian}
 use Rattle.uk_ordinal.specs.OrdinalTables.{ordinalZeroBase, oneBase, ordinalUnitBases, ordinalTensBases, hundredBase, adjectiveHardFlexionsSingular, adjectiveHardFlexionsPlural, adjectiveSoftFlexionsSingular, adjectiveSoftFlexionsPlural}
 
 -- "The ending is soft when units is 3 and the number's last two digits aren't 13."
@@ -74,13 +74,13 @@ above order n = n / 1000 ^ suc order * 1000 ^ suc order
 -- n, whose lowest nonzero group is at this order: "groups above the lowest nonzero one are nominative cardinals; the lowest carries the ending"
 unfoldable pub ordinalAt : Settings → Word → ℕ → ℕ → List Word
 ordinalAt S ending order n =
-    groupsBelow (ukrainian (inNominative S)) 22 (above order n) ++ lowestWords S ending (above order n) order (groupAt order n)
+    groupsBelow (ukrainian (inNominative S)) ukrainianOrders (above order n) ++ lowestWords S ending (above order n) order (groupAt order n)
 
 -- n from an order up, of which so many are left: the first group that is not 0 is the lowest; "Zero is `ORDINAL_ZERO_BASE` and ending"
 unfoldable pub ordinalFrom : Settings → Word → ℕ → ℕ → ℕ → List Word
 ordinalFrom S ending zero order n = (utf8 ordinalZeroBase ++ ending) ∷ []
 ordinalFrom S ending (suc left) order n = cond (eqb (groupAt order n) 0) (ordinalFrom S ending left (suc order) n) (ordinalAt S ending order n)
 
--- the words of an ordinal, of the 22 orders that 66 digits have
+-- the words of an ordinal
 unfoldable pub ordinalWords : Settings → ℕ → List Word
-ordinalWords S n = ordinalFrom S (flexion S (soft n)) 22 0 n
+ordinalWords S n = ordinalFrom S (flexion S (soft n)) ukrainianOrders 0 n

@@ -18,7 +18,8 @@ use Rattle.figures.specs.Groups.{total, Groups}
 use Rattle.figures.proofs.Laws.Groups.{group-of}
 use Rattle.groups.specs.Highest.{ZeroFrom, Highest}
 use Rattle.groups.proofs.Highest.{total-none, none-total}
-use Rattle.cardinals.specs.Cardinal.{Lexicon, groupAt, groupsBelow}
+use Rattle.cardinals.specs.Lexicon.{Lexicon}
+use Rattle.cardinals.specs.Cardinal.{groupAt, groupsBelow}
 use Rattle.cardinals.specs.Listed.{listed}
 use Rattle.cardinals.proofs.Arrays.{listed-is, listed-high}
 use Rattle.uk.specs.Ukrainian.{ukrainian}

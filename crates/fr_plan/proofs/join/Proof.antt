@@ -4,7 +4,7 @@ use borrow.Author.Needs.{needs}
 use Prim.Native.Nat.{_<_}
 use mathlib.Core.Bool.{Bool, true, false, cond}
 use native.Mathlib.Omega.{arith}
-use Rattle.base.specs.Join.{space, hyphen}
+use Rattle.base.specs.Signs.{space, hyphen}
 use Rattle.settings.specs.declared.Settings.{Settings}
 use Rattle.fr.specs.Rules.{isReformed, frenchJoiner}
 use Rattle.fr_plan.proofs.Appends.{one-word}
