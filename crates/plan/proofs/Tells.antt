@@ -35,7 +35,8 @@ told-word {b = b} a e = rw (← e) (record { pieces = (32, b) ∷ []; added = a;
 pub told-ended : {pool : List ℕ} {j k n m r : ℕ} {xs ys zs b c w v : List ℕ} → Added pool j xs n ys m ((32, b) ∷ []) → Added pool k ys m zs r ((0, c) ∷ []) → b ≡ w → c ≡ v → Told pool (j + k) xs n zs r ((w ++ v) ∷ [])
 told-ended {j = j} {k = k} {b = b} {c = c} a d e f = rw (← e, ← f) (record { pieces = (32, b) ∷ (0, c) ∷ []; added = then (j + k) a d (omega arith); speaks = ended b c none })
 
-follows : {ps : List Piece} {ws : List Word} → Speaks ps ws → following ps ≡ spaced ws
+-- what pieces that say words say after others
+pub follows : {ps : List Piece} {ws : List Word} → Speaks ps ws → following ps ≡ spaced ws
 unfolding following
 follows none = refl
 follows (whole w s) = rw (follows s) refl

@@ -103,7 +103,7 @@ pub fn in_form(number: u8, case: u8, settings: Settings) -> Settings
     }
 }
 
-// These settings as one number, for a function that calls itself: a record by value is copied in memory for each call, a number stays in a register.
+// These settings as one number, for a function that is not inlined: a record by value is copied in memory for each call, a number stays in a register.
 pub fn packed(settings: Settings) -> u64
     ensures { λ r. ⌜ settingsIn r ≡ settings ⌝ }
 {

@@ -10,6 +10,7 @@ ghost use Prim.Native.Nat.{_+_, _*_, _/_, _%_, _≤_, _<_};
 ghost use lib.ListN.{length, getD};
 ghost use lib.Dec.{eqb};
 ghost use Rattle.settings.specs.Settings.{ukrainianRanges, Within};
+ghost use Rattle.settings.specs.Packed.{settingsIn};
 ghost use Rattle.figures.specs.Groups.{total, Groups};
 ghost use Rattle.groups.specs.Highest.{ZeroFrom};
 ghost use Rattle.words.specs.Part.{part};
@@ -64,20 +65,21 @@ fn say_name(row: &[u16; 4], settings: Settings, n: usize, plan: &mut [u32], at: 
     say_form(row[1], uk_money::ending(class, place), plan, k)
 }
 
-// A count of n orders of the unit with this row: the cardinal and the name.
+// A count of n orders of the unit with this row, under the settings that a number holds: the cardinal and the name.
 fn say_count(
     row: &[u16; 4],
-    settings: Settings,
+    code: u64,
     zero: bool,
     n: usize,
     gs: &[u16; ORDERS],
     plan: &mut [u32],
     at: usize,
 ) -> usize
-    requires { ⌜ (getD (now row) 2 0 < 8) × (getD (now row) 3 0 < 3) × Within (ukrainianRanges settings) × (n ≤ 22) × ZeroFrom (now gs) n × (at + (5 * n + 5) ≤ length (now plan)) ⌝ }
+    requires { ⌜ (getD (now row) 2 0 < 8) × (getD (now row) 3 0 < 3) × Within (ukrainianRanges (settingsIn code)) × (n ≤ 22) × ZeroFrom (now gs) n × (at + (5 * n + 5) ≤ length (now plan)) ⌝ }
     requires { ⌜ Groups (now gs) × (length (now gs) ≡ 22) × (zero ≡ eqb (total (now gs)) 0) ⌝ }
-    ensures { λ r. ⌜ ((name : Name) → Row name (now (row .entry)) → Told ukPool (5 * n + 5) (now (plan .entry)) at (now (plan .exit)) r (countWords settings name (total (now (gs .entry))))) ⌝ }
+    ensures { λ r. ⌜ ((name : Name) → Row name (now (row .entry)) → Told ukPool (5 * n + 5) (now (plan .entry)) at (now (plan .exit)) r (countWords (settingsIn code) name (total (now (gs .entry))))) ⌝ }
 {
+    let settings = settings::unpacked(code);
     let counting = settings::in_gender(row[3] as u8, settings);
     let k = uk_plan::say_cardinal(counting, zero, false, n, gs, plan, at);
     say_name(row, settings, base::wide_group(gs[0]), plan, k)
@@ -85,7 +87,7 @@ fn say_count(
 
 // A count of a currency's main unit.
 fn say_main(
-    settings: Settings,
+    code: u64,
     currency: usize,
     zero: bool,
     n: usize,
@@ -93,29 +95,29 @@ fn say_main(
     plan: &mut [u32],
     at: usize,
 ) -> usize
-    requires { ⌜ Within (ukrainianRanges settings) × (currency < 44) × (n ≤ 22) × ZeroFrom (now gs) n × (at + (5 * n + 5) ≤ length (now plan)) ⌝ }
+    requires { ⌜ Within (ukrainianRanges (settingsIn code)) × (currency < 44) × (n ≤ 22) × ZeroFrom (now gs) n × (at + (5 * n + 5) ≤ length (now plan)) ⌝ }
     requires { ⌜ Groups (now gs) × (length (now gs) ≡ 22) × (zero ≡ eqb (total (now gs)) 0) ⌝ }
-    ensures { λ r. ⌜ Told ukPool (5 * n + 5) (now (plan .entry)) at (now (plan .exit)) r (countWords settings (currencyAt currency .main) (total (now (gs .entry)))) ⌝ }
+    ensures { λ r. ⌜ Told ukPool (5 * n + 5) (now (plan .entry)) at (now (plan .exit)) r (countWords (settingsIn code) (currencyAt currency .main) (total (now (gs .entry)))) ⌝ }
 {
     let row = uk_money::main_row(currency);
-    say_count(&row, settings, zero, n, gs, plan, at)
+    say_count(&row, code, zero, n, gs, plan, at)
 }
 
 // A count of its fraction, above 0.
 fn say_fraction(
-    settings: Settings,
+    code: u64,
     currency: usize,
     hundredths: u32,
     plan: &mut [u32],
     at: usize,
 ) -> usize
-    requires { ⌜ Within (ukrainianRanges settings) × (currency < 44) × (0 < hundredths) × (hundredths < 100) × (at + 10 ≤ length (now plan)) ⌝ }
-    ensures { λ r. ⌜ Told ukPool 10 (now (plan .entry)) at (now (plan .exit)) r (countWords settings (currencyAt currency .fraction) hundredths) ⌝ }
+    requires { ⌜ Within (ukrainianRanges (settingsIn code)) × (currency < 44) × (0 < hundredths) × (hundredths < 100) × (at + 10 ≤ length (now plan)) ⌝ }
+    ensures { λ r. ⌜ Told ukPool 10 (now (plan .entry)) at (now (plan .exit)) r (countWords (settingsIn code) (currencyAt currency .fraction) hundredths) ⌝ }
 {
     let row = uk_money::fraction_row(currency);
     let mut gs = [0u16; ORDERS];
     gs[0] = hundredths as u16;
-    say_count(&row, settings, false, 1, &gs, plan, at)
+    say_count(&row, code, false, 1, &gs, plan, at)
 }
 
 // The plan of an amount under these settings, from its whole part, whether that is zero, its orders and its groups, and from its hundredths: it
@@ -133,12 +135,13 @@ pub fn plan_money(
     requires { ⌜ Groups (now gs) × (length (now gs) ≡ 22) × (zero ≡ eqb (total (now gs)) 0) ⌝ }
     ensures { λ r. ⌜ (r ≤ 50) × (phrase (says ukPool (now (plan .exit)) r) ≡ amountPhrase settings (currencyAt currency) (total (now (gs .entry))) hundredths) ⌝ }
 {
+    let code = settings::packed(settings);
     if hundredths == 0 {
-        return say_main(settings, currency, zero, n, gs, plan, 0);
+        return say_main(code, currency, zero, n, gs, plan, 0);
     }
     if zero {
-        return say_fraction(settings, currency, hundredths, plan, 0);
+        return say_fraction(code, currency, hundredths, plan, 0);
     }
-    let k = say_main(settings, currency, false, n, gs, plan, 0);
-    say_fraction(settings, currency, hundredths, plan, k)
+    let k = say_main(code, currency, false, n, gs, plan, 0);
+    say_fraction(code, currency, hundredths, plan, k)
 }

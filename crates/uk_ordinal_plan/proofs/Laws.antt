@@ -10,6 +10,7 @@ use Rattle.plan.specs.Plan.{Added, says, pieces}
 use Rattle.plan.specs.Speaks.{Speaks, none, whole, ended, Told}
 use Rattle.plan.proofs.Added.{stay, then, same}
 use Rattle.plan.proofs.Laws.{following-append}
+use Rattle.plan.proofs.Tells.{follows}
 use Rattle.uk_ordinal_plan.specs.Said.{LedBy, nothing, piece, Said, runOn, Ran, Spoken}
 
 -- the same bytes, in more room
@@ -91,12 +92,6 @@ run-word {ws = []} a z = absurd (z refl)
 run-word {k = k} {ws = w ∷ ws} a z = record { said = resay k (a .said) (omega arith) (ap (λ (l : List ℕ). 32 ∷ l) (sym (append-nil (flatten (w ∷ ws))))) }
 
 -- words that are told
-follows : {ps : List Piece} {ws : List Word} → Speaks ps ws → following ps ≡ spaced ws
-unfolding following
-follows none = refl
-follows (whole w s) = rw (follows s) refl
-follows (ended w e {ws = ws} s) = rw (follows s) (ap (λ (l : List ℕ). 32 ∷ l) (sym (append-assoc w e (spaced ws))))
-
 begins : {ps : List Piece} {ws : List Word} → Speaks ps ws → LedBy 32 ps
 begins none = nothing
 begins (whole w {ps = ps} s) = piece w ps

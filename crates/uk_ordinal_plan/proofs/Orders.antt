@@ -2,7 +2,7 @@
 -- Assumes nothing.
 use Prim.Native.Nat.{ℕ, zero, suc, _+_, _-_, _*_, _/_, _%_, _^_, _<_, _≤_}
 use mathlib.Core.Path.{_≡_, refl, sym, ap, _∙_}
-use mathlib.Core.Bool.{true, false, not, _&&_}
+use mathlib.Core.Bool.{not, _&&_}
 use mathlib.Core.List.{List, [], _∷_, _++_}
 use native.Mathlib.Nat.{pow-succ', div-div-eq-div-mul}
 use native.Mathlib.Omega.{arith}
@@ -21,7 +21,7 @@ use Rattle.groups.proofs.Highest.{total-none, none-total}
 use Rattle.cardinals.specs.Lexicon.{Lexicon}
 use Rattle.cardinals.specs.Cardinal.{groupAt, groupsBelow}
 use Rattle.cardinals.specs.Listed.{listed}
-use Rattle.cardinals.proofs.Arrays.{listed-is, listed-high}
+use Rattle.cardinals.proofs.Arrays.{listed-is}
 use Rattle.uk.specs.Ukrainian.{ukrainian}
 use Rattle.uk_ordinal.specs.OrdinalTables.{ordinalZeroBase}
 use Rattle.uk_ordinal.specs.Ordinal.{soft, flexion, inNominative, lowestWords, above, ordinalAt, ordinalFrom, ordinalWords}
@@ -86,7 +86,7 @@ module _ (gs : List ℕ) (all : Groups22 gs) (k : ℕ) (low : LowestAt gs k) whe
 
   -- it is alone just where the orders end with it
   module _ (n : ℕ) (top : Highest gs n) (h : k < 22) where
-    above-none : k + 1 ≡ n → ZeroFrom (set gs k 0) 0
+    pub above-none : k + 1 ≡ n → ZeroFrom (set gs k 0) 0
     above-none e i l = go (ℕ-discrete i k) (decLt i k)
       where
         go : Dec (i ≡ k) → Dec (i < k) → getD (set gs k 0) i 0 ≡ 0
@@ -94,18 +94,19 @@ module _ (gs : List ℕ) (all : Groups22 gs) (k : ℕ) (low : LowestAt gs k) whe
         go (no q) (yes b) = getD-set-other gs k i 0 0 q ∙ low .zeros i b
         go (no q) (no b) = getD-set-other gs k i 0 0 q ∙ top .zeros i (omega arith)
 
-    pub lone : k + 1 ≡ n → true ≡ eqb (above k (total gs)) 0
-    lone e = sym (eq-eqb (above k (total gs)) 0 (sym (above-is h) ∙ total-none (set gs k 0) (above-none e)))
-
-    pub not-lone : (k + 1 ≡ n → ⊥) → false ≡ eqb (above k (total gs)) 0
-    not-lone e = sym (ne-eqb (above k (total gs)) 0 (λ z. top .some (omega (arith, inside (decLt k n))) (high z (decLt k n))))
+    pub lone : eqb (k + 1) n ≡ eqb (above k (total gs)) 0
+    lone = go (ℕ-discrete (k + 1) n) (inside (decLt k n))
       where
         inside : Dec (k < n) → k < n
         inside (yes l) = l
         inside (no l) = absurd (low .some h (top .zeros k (omega arith)))
 
-        high : above k (total gs) ≡ 0 → Dec (k < n) → getD gs (n - 1) 0 ≡ 0
-        high z d = sym (getD-set-other gs k (n - 1) 0 0 (λ q. e (omega (arith, inside d)))) ∙ none-total (set gs k 0) (above-is h ∙ z) (n - 1) (omega arith)
+        high : above k (total gs) ≡ 0 → (k + 1 ≡ n → ⊥) → k < n → getD gs (n - 1) 0 ≡ 0
+        high z e l = sym (getD-set-other gs k (n - 1) 0 0 (λ q. e (omega arith))) ∙ none-total (set gs k 0) (above-is h ∙ z) (n - 1) (omega arith)
+
+        go : Dec (k + 1 ≡ n) → k < n → eqb (k + 1) n ≡ eqb (above k (total gs)) 0
+        go (yes e) l = eq-eqb (k + 1) n e ∙ sym (eq-eqb (above k (total gs)) 0 (sym (above-is h) ∙ total-none (set gs k 0) (above-none e)))
+        go (no e) l = ne-eqb (k + 1) n e ∙ sym (ne-eqb (above k (total gs)) 0 (λ z. top .some (omega arith) (high z e l)))
 
   -- the words of the number, with the ending e
   module _ (S : Settings) (e : Word) (ends : e ≡ flexion S (soft (getD gs 0 0))) where
@@ -137,9 +138,3 @@ module _ (gs : List ℕ) (all : Groups22 gs) (k : ℕ) (low : LowestAt gs k) whe
         → listed (ukrainian (inNominative S)) 22 (set gs k 0) ++ lowestWords S e (above k (total gs)) k (getD gs k 0) ≡ ordinalWords S (total gs)
     unfolding ordinalAt
     ordinal-higher h = rw (higher-is (ukrainian (inNominative S)) h, ← group-is k h) (sym (from-up 22 0 (omega arith) (omega arith) h)) ∙ words-are
-
-    pub ordinal-lone : (n : ℕ) → Highest gs n → k < 22 → k + 1 ≡ n → lowestWords S e (above k (total gs)) k (getD gs k 0) ≡ ordinalWords S (total gs)
-    unfolding listed
-    ordinal-lone n top h q =
-        ap (λ (ws : List Word). ws ++ lowestWords S e (above k (total gs)) k (getD gs k 0))
-        (listed-high (ukrainian (inNominative S)) (set gs k 0) 0 22 (above-none n top h q) (omega arith)) ∙ ordinal-higher h

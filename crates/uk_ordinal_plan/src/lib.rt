@@ -8,12 +8,14 @@ use settings::Settings;
 use uk::ORDERS;
 use uk_plan::SPACE;
 ghost use mathlib.Core.Path.{_≡_};
+ghost use mathlib.Core.Bool.{true};
 ghost use mathlib.Core.List.{_∷_, _++_};
 ghost use Prim.Native.Nat.{ℕ, _+_, _≤_, _<_};
 ghost use lib.Dec.{eqb};
 ghost use lib.ListN.{length, set};
 ghost use Rattle.base.specs.Join.{joined};
 ghost use Rattle.settings.specs.Settings.{masculine, ukrainianRanges, Within, inGender};
+ghost use Rattle.settings.specs.Packed.{settingsIn};
 ghost use Rattle.figures.specs.Groups.{total};
 ghost use Rattle.groups.specs.Highest.{ZeroFrom, Highest};
 ghost use Rattle.words.specs.Part.{part};
@@ -49,9 +51,10 @@ fn lowest(gs: &[u16; ORDERS]) -> usize
     ORDERS
 }
 
-// The groups above the lowest, as nominative cardinals.
+// The groups above the lowest, as nominative cardinals; lone is that there are none, and that nothing has to be copied.
 fn higher(
     settings: Settings,
+    lone: bool,
     n: usize,
     gs: &[u16; ORDERS],
     order: usize,
@@ -59,8 +62,12 @@ fn higher(
     at: usize,
 ) -> usize
     requires { ⌜ Within (ukrainianRanges settings) × (order < 22) × (n ≤ 22) × ZeroFrom (now gs) n × (at + 110 ≤ length (now plan)) ⌝ }
+    requires { ⌜ (lone ≡ true → ZeroFrom (set (now gs) order 0) 0) ⌝ }
     ensures { λ r. ⌜ Told ukPool 110 (now (plan .entry)) at (now (plan .exit)) r (listed (ukrainian (inNominative settings)) 22 (set (now (gs .entry)) order 0)) ⌝ }
 {
+    if lone {
+        return at;
+    }
     let mut above = *gs;
     above[order] = 0;
     uk_plan::say_groups(uk_ordinal::in_nominative(settings), n, &above, plan, at)
@@ -102,11 +109,17 @@ fn say_ordinal(
         return plain::zero_word(ending, plan, at);
     }
     let g = base::wide_group(gs[order]);
-    if order + 1 == n {
-        return lowest_words(settings, order, g, true, ending, plan, at);
-    }
-    let k = higher(settings, n, gs, order, plan, at);
-    lowest_words(settings, order, g, false, ending, plan, k)
+    let lone = order + 1 == n;
+    let k = higher(settings, lone, n, gs, order, plan, at);
+    lowest_words(settings, order, g, lone, ending, plan, k)
+}
+
+// The same under the settings that a number holds.
+fn ordinal_under(code: u64, n: usize, gs: &[u16; ORDERS], plan: &mut [u32], at: usize) -> usize
+    requires { ⌜ Within (ukrainianRanges (settingsIn code)) × Groups22 (now gs) × Highest (now gs) n × (at + 116 ≤ length (now plan)) ⌝ }
+    ensures { λ r. ⌜ Spoken ukPool 116 (now (plan .entry)) at (now (plan .exit)) r (ordinalWords (settingsIn code) (total (now (gs .entry)))) ⌝ }
+{
+    say_ordinal(settings::unpacked(code), n, gs, plan, at)
 }
 
 // What years 0 and below add.
@@ -126,7 +139,7 @@ pub fn plan_ordinal(settings: Settings, n: usize, gs: &[u16; ORDERS], plan: &mut
     requires { ⌜ Within (ukrainianRanges settings) × Groups22 (now gs) × Highest (now gs) n × (116 ≤ length (now plan)) ⌝ }
     ensures { λ r. ⌜ (r ≤ 116) × (phrase (says ukPool (now (plan .exit)) r) ≡ joined (ordinalWords settings (total (now (gs .entry))))) ⌝ }
 {
-    say_ordinal(settings, n, gs, plan, 0)
+    ordinal_under(settings::packed(settings), n, gs, plan, 0)
 }
 
 // The plan of a year under these settings, from the groups of its magnitude; early is whether it is 0 or below.
@@ -140,7 +153,8 @@ pub fn plan_year(
     requires { ⌜ Within (ukrainianRanges settings) × Groups22 (now gs) × Highest (now gs) n × (119 ≤ length (now plan)) ⌝ }
     ensures { λ r. ⌜ (r ≤ 119) × (phrase (says ukPool (now (plan .exit)) r) ≡ joined (ordinalWords (inGender masculine settings) (total (now (gs .entry))) ++ (yearNoun settings ∷ eraWords early))) ⌝ }
 {
-    let a = say_ordinal(settings::in_gender(MASCULINE, settings), n, gs, plan, 0);
+    let code = settings::packed(settings::in_gender(MASCULINE, settings));
+    let a = ordinal_under(code, n, gs, plan, 0);
     let b = push(plan, a, SPACE, uk_ordinal::year_word(settings));
     say_era(early, plan, b)
 }

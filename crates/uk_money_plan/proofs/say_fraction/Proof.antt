@@ -3,6 +3,7 @@
 use borrow.Author.Needs.{needs}
 use borrow.Author.Tests.{ne-eqb}
 use mathlib.Core.Path.{refl, sym, ap, _∙_}
+use Rattle.settings.specs.Packed.{settingsIn}
 use Rattle.plan.proofs.Tells.{retell}
 use Rattle.uk_money.specs.Money.{countWords}
 use Rattle.uk_money.specs.Rows.{currencyAt}
@@ -28,4 +29,4 @@ say-fraction-spec =
     (λ c. search needs) (λ c. search needs)
     say-count-requires
     (λ c. search needs)
-    (λ c. let s = c .before .before .before .before .before .before .before .before .args in retell 10 (c .before .before .say-count .ensures _ (c .before .before .before .before .before .before .fraction-row .ensures)) (omega arith) (ap (countWords (s .settings) (currencyAt (s .currency) .fraction)) (one-total (s .hundredths)))))
+    (λ c. let s = c .before .before .before .before .before .before .before .before .args in retell 10 (c .before .before .say-count .ensures _ (c .before .before .before .before .before .before .fraction-row .ensures)) (omega arith) (ap (countWords (settingsIn (s .code)) (currencyAt (s .currency) .fraction)) (one-total (s .hundredths)))))

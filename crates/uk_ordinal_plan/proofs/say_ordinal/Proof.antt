@@ -1,9 +1,10 @@
--- `uk_ordinal_plan::say_ordinal` meets its contract: zero's word, the lowest group alone, or the groups above it and the lowest.
+-- `uk_ordinal_plan::say_ordinal` meets its contract: zero's word, or the groups above the lowest and the lowest.
 -- Assumes nothing.
 use Prim.Native.Nat.{_<_}
 use mathlib.Core.Path.{_≡_, ap, _∙_}
 use native.Mathlib.Omega.{arith}
 use borrow.Author.Needs.{needs}
+use borrow.Author.Tests.{eqb-true}
 use denote.Ref.{now}
 use lib.ListN.{getD}
 use Rattle.words.specs.Part.{part}
@@ -11,7 +12,7 @@ use Rattle.figures.specs.Groups.{total}
 use Rattle.uk.specs.Pool.{ukPool}
 use Rattle.uk_ordinal.specs.Ordinal.{soft, flexion, above}
 use Rattle.uk_ordinal_plan.proofs.Laws.{told, speak, respeak}
-use Rattle.uk_ordinal_plan.proofs.Orders.{lone, not-lone, ordinal-zero, ordinal-lone, ordinal-higher}
+use Rattle.uk_ordinal_plan.proofs.Orders.{above-none, lone, ordinal-zero, ordinal-higher}
 use Rattle.uk_ordinal_plan.proofs.say_ordinal.Statement.{statement}
 use Rattle.uk_ordinal_plan.proofs.say_ordinal.Tie as tie
 
@@ -33,36 +34,29 @@ returns c =
     respeak 116 (told (c .before .before .zero-word .ensures)) (omega arith)
     (ordinal-zero (now (s .args .gs)) (s .pre .1) (p .result) (p .ensures) (s .args .settings) _ (ends (c .before .before .before .before .before .before)) (c .before .before .before .before .if1 .taken))
 
+higher-requires : tie.Need-higher-requires
+higher-requires c κs =
+    let s = c .before .before .before .before .before .before .before .before .before in
+    let p = c .before .before .before .before .lowest in
+    let h = inside (c .before .before .before) in
+    ((s .pre .0, h, omega (arith, s .pre .1 .count, s .pre .2 .within), s .pre .2 .zeros, omega (arith, s .pre .3)), λ e. above-none (now (s .args .gs)) (s .pre .1) (p .result) (p .ensures) (s .args .n) (s .pre .2) h (eqb-true _ _ e))
+
 lowest-words-requires : tie.Need-lowest-words-requires
 lowest-words-requires c κs =
-    let s = c .before .before .before .before .before .before .before .before .before .before in
-    rw (c .before .before .wide-group .ensures) (s .pre .0, inside (c .before .before .before .before), positive (c .before .before .before .before), s .pre .1 .below (c .before .before .before .before .before .lowest .result), omega (arith, s .pre .3))
+    let s = c .before .before .before .before .before .before .before .before .before .before .before .before .before in
+    let q = c .before .before .before .higher in
+    rw (c .before .before .before .before .before .wide-group .ensures)
+    (s .pre .0, inside (c .before .before .before .before .before .before .before), positive (c .before .before .before .before .before .before .before), s .pre .1 .below (c .before .before .before .before .before .before .before .before .lowest .result), omega (arith, s .pre .3, q .ensures .added .near, q .kept .1 .1 .1 .1 .1 .0))
 
 returns-2 : tie.Need-returns-2
 returns-2 c =
-    let s = c .before .before .before .before .before .before .before .before .before .before .before .before .before in
+    let s = c .before .before .before .before .before .before .before .before .before .before .before .before .before .before .before .before in
     let gs = now (s .args .gs) in
-    let p = c .before .before .before .before .before .before .before .before .lowest in
-    let q = c .before .before .before .before .if2 .taken in
-    let w = c .before .before .lowest-words .ensures (above (p .result) (total gs)) (lone gs (s .pre .1) (p .result) (p .ensures) (s .args .n) (s .pre .2) (inside (c .before .before .before .before .before .before .before)) q) in
-    respeak 116 (rw (c .before .before .before .before .before .wide-group .ensures) at w) (omega arith)
-    (ordinal-lone gs (s .pre .1) (p .result) (p .ensures) (s .args .settings) _ (ends (c .before .before .before .before .before .before .before .before .before)) (s .args .n) (s .pre .2) (inside (c .before .before .before .before .before .before .before)) q)
-
-lowest-words-requires-2 : tie.Need-lowest-words-requires-2
-lowest-words-requires-2 c κs =
-    let s = c .before .before .before .before .before .before .before .before .before .before .before .before .before .before in
-    let q = c .before .before .before .higher in
-    rw (c .before .before .before .before .before .before .wide-group .ensures)
-    (s .pre .0, inside (c .before .before .before .before .before .before .before .before), positive (c .before .before .before .before .before .before .before .before), s .pre .1 .below (c .before .before .before .before .before .before .before .before .before .lowest .result), omega (arith, s .pre .3, q .ensures .added .near, q .kept .1 .1 .1 .1 .0))
-
-returns-3 : tie.Need-returns-3
-returns-3 c =
-    let s = c .before .before .before .before .before .before .before .before .before .before .before .before .before .before .before .before .before in
-    let gs = now (s .args .gs) in
-    let p = c .before .before .before .before .before .before .before .before .before .before .before .before .lowest in
-    let w = c .before .before .lowest-words2 .ensures (above (p .result) (total gs)) (not-lone gs (s .pre .1) (p .result) (p .ensures) (s .args .n) (s .pre .2) (inside (c .before .before .before .before .before .before .before .before .before .before .before)) (c .before .before .before .before .before .before .before .before .if2 .left)) in
-    respeak 116 (speak 116 (told (c .before .before .before .before .before .before .higher .ensures)) (rw (c .before .before .before .before .before .before .before .before .before .wide-group .ensures) at w) (omega arith)) (omega arith)
-    (ordinal-higher gs (s .pre .1) (p .result) (p .ensures) (s .args .settings) _ (ends (c .before .before .before .before .before .before .before .before .before .before .before .before .before)) (inside (c .before .before .before .before .before .before .before .before .before .before .before)))
+    let p = c .before .before .before .before .before .before .before .before .before .before .before .lowest in
+    let h = inside (c .before .before .before .before .before .before .before .before .before .before) in
+    let w = c .before .before .lowest-words .ensures (above (p .result) (total gs)) (lone gs (s .pre .1) (p .result) (p .ensures) (s .args .n) (s .pre .2) h) in
+    respeak 116 (speak 116 (told (c .before .before .before .before .before .before .higher .ensures)) (rw (c .before .before .before .before .before .before .before .before .wide-group .ensures) at w) (omega arith)) (omega arith)
+    (ordinal-higher gs (s .pre .1) (p .result) (p .ensures) (s .args .settings) _ (ends (c .before .before .before .before .before .before .before .before .before .before .before .before)) h)
 
 pub say-ordinal-spec : {M : Type 1} → statement M
 say-ordinal-spec =
@@ -70,6 +64,5 @@ say-ordinal-spec =
     (tie.spec (λ c. search needs) (λ c κs. search needs) (λ c κs. search needs) (λ c κs. search needs)
     (λ c κs. search needs) (λ c. search needs) returns (λ c. search needs) (λ c. search needs)
     (λ c κs. search needs) (λ c. search needs)
-    lowest-words-requires (λ c. search needs) returns-2
-    (λ c κs. search needs)
-    lowest-words-requires-2 (λ c. search needs) returns-3)
+    higher-requires
+    lowest-words-requires (λ c. search needs) returns-2)
