@@ -104,13 +104,7 @@ fn say_main(
 }
 
 // A count of its fraction, above 0.
-fn say_fraction(
-    code: u64,
-    currency: usize,
-    hundredths: u32,
-    plan: &mut [u32],
-    at: usize,
-) -> usize
+fn say_fraction(code: u64, currency: usize, hundredths: u32, plan: &mut [u32], at: usize) -> usize
     requires { ⌜ Within (ukrainianRanges (settingsIn code)) × (currency < 44) × (0 < hundredths) × (hundredths < 100) × (at + 10 ≤ length (now plan)) ⌝ }
     ensures { λ r. ⌜ Told ukPool 10 (now (plan .entry)) at (now (plan .exit)) r (countWords (settingsIn code) (currencyAt currency .fraction) hundredths) ⌝ }
 {
