@@ -1,7 +1,7 @@
 -- The code's row of a unit's name: the places of its adjective's stem, 0 for none, and of its noun's, the number of the noun's class, and the
 -- gender; and a code as one number. These only tie the code to the tables.
 -- Assumes nothing.
-use Prim.Native.Nat.{ℕ, zero, suc, _+_, _*_, _<_}
+use Prim.Native.Nat.{ℕ, zero, suc, _+_, _*_, _/_, _%_, _<_}
 use mathlib.Core.Path.{_≡_}
 use mathlib.Core.Bool.{cond}
 use mathlib.Core.List.{List, [], _∷_, _++_}
@@ -24,23 +24,28 @@ classes = hard2 ∷ soft2 ∷ vowel1 ∷ hard1 ∷ adj ∷ undeclined ∷ hryvni
 abbrev pub classAt : ℕ → Class
 classAt k = getD classes k hard2
 
--- the adjective of a row in a grammatical number and case, if it has one
-abbrev pub adjectiveIn : ℕ → ℕ → ℕ → List Word
-adjectiveIn zero number case = []
-adjectiveIn (suc a) number case = (part ukPool (suc a) ++ form2 (endings adj) number case) ∷ []
+-- the adjective of a row with this place of its stem, if it has one
+abbrev pub adjectiveIn : Settings → ℕ → List Word
+adjectiveIn S zero = []
+adjectiveIn S (suc a) = (part ukPool (suc a) ++ form2 (endings adj) (S .number) (S .case)) ∷ []
 
 -- the words of a row: the adjective, and the noun
-abbrev pub formsIn : List ℕ → ℕ → ℕ → List Word
-formsIn row number case =
-    adjectiveIn (getD row 0 0) number case ++
-    ((part ukPool (getD row 1 0) ++ form2 (endings (classAt (getD row 2 0))) number case) ∷ [])
+abbrev pub formsIn : Settings → List ℕ → List Word
+formsIn S row =
+    adjectiveIn S (getD row 0 0) ++
+    ((part ukPool (getD row 1 0) ++ form2 (endings (classAt (getD row 2 0))) (S .number) (S .case)) ∷ [])
+
+-- the place among a class's endings of the form that the settings ask for
+pub record FormAt (S : Settings) (place : ℕ) : Type 0 where
+  pub numberIs : place / 6 ≡ S .number
+  pub caseIs : place % 6 ≡ S .case
 
 -- the row has a name's gender and words, and its numbers are in their ranges
 pub record Row (name : Name) (row : List ℕ) : Type 0 where
   pub gender : name .gender ≡ getD row 3 0
-  pub forms : (S : Settings) → nameForms S name ≡ formsIn row (S .number) (S .case)
-  pub classes : getD row 2 0 < 8
-  pub genders : getD row 3 0 < 3
+  pub forms : (S : Settings) → nameForms S name ≡ formsIn S row
+  pub classed : getD row 2 0 < 8
+  pub gendered : getD row 3 0 < 3
 
 -- what stands past the end of the currencies
 abbrev pub past : Currency

@@ -11,9 +11,9 @@ ghost use Rattle.base.specs.Utf8.{form2};
 ghost use Rattle.words.specs.Part.{part};
 ghost use Rattle.uk.specs.Pool.{ukPool};
 ghost use Rattle.settings.specs.Settings.{ukrainianRanges, Within};
-ghost use Rattle.uk.specs.Ukrainian.{agreed as agreedOf};
+ghost use Rattle.uk.specs.Ukrainian.{agreed};
 ghost use Rattle.uk_money.specs.Nouns.{endings};
-ghost use Rattle.uk_money.specs.Rows.{classAt, Row, currencyAt, codePlace, codeKey};
+ghost use Rattle.uk_money.specs.Rows.{classAt, Row, currencyAt, codePlace, codeKey, FormAt};
 
 // How many currencies there are; also what stands for none.
 pub const CURRENCIES: usize = 44;
@@ -63,9 +63,9 @@ pub fn fraction_row(currency: usize) -> [u16; 4]
 }
 
 // Where a form stands that agrees with a count that ends in these digits: singular, then plural, each by case.
-pub fn agreed(t: usize, u: usize, settings: Settings) -> usize
+pub fn agreed_place(t: usize, u: usize, settings: Settings) -> usize
     requires { ⌜ Within (ukrainianRanges settings) ⌝ }
-    ensures { λ r. ⌜ (r < 12) × (r / 6 ≡ agreedOf t u settings .number) × (r % 6 ≡ agreedOf t u settings .case) ⌝ }
+    ensures { λ r. ⌜ (r < 12) × FormAt (agreed t u settings) r ⌝ }
 {
     let a = uk::agreement(t, u, settings);
     let number = a.number as usize;

@@ -16,7 +16,7 @@ use Rattle.uk.specs.Ukrainian.{agreed}
 use Rattle.uk_money.specs.Nouns.{adj, endings, Name, agreedName}
 use Rattle.uk_money.specs.Currencies.{Currency}
 use Rattle.uk_money.specs.Money.{countWords, amountWords, amountPhrase}
-use Rattle.uk_money.specs.Rows.{classAt, adjectiveIn, Row}
+use Rattle.uk_money.specs.Rows.{classAt, adjectiveIn, FormAt, Row}
 
 -- a word whose stem is empty, and one whose ending is
 empty : (p : ℕ) → p ≡ 0 → part ukPool p ≡ []
@@ -30,20 +30,20 @@ pub only-stem : (s e : ℕ) → e ≡ 0 → part ukPool s ≡ part ukPool s ++ p
 only-stem s e z = rw (empty e z, append-nil) refl
 
 -- the adjective of a name, if it has one
-pub no-adjective : (a number case : ℕ) → a ≡ 0 → [] ≡ adjectiveIn a number case
-no-adjective a number case e = rw e refl
+pub no-adjective : (S : Settings) (a : ℕ) → a ≡ 0 → [] ≡ adjectiveIn S a
+no-adjective S a e = rw e refl
 
-pub adjective-is : (a e number case : ℕ) → (a ≡ 0 → ⊥) → part ukPool e ≡ form2 (endings adj) number case
-    → (part ukPool a ++ part ukPool e) ∷ [] ≡ adjectiveIn a number case
-adjective-is zero e number case n f = absurd (n refl)
-adjective-is (suc a) e number case n f = rw f refl
+pub adjective-is : (S : Settings) (p a e : ℕ) → FormAt S p → (a ≡ 0 → ⊥) → part ukPool e ≡ form2 (endings adj) (p / 6) (p % 6)
+    → (part ukPool a ++ part ukPool e) ∷ [] ≡ adjectiveIn S a
+adjective-is S p zero e s n f = absurd (n refl)
+adjective-is S p (suc a) e s n f = rw (f, s .numberIs, s .caseIs) refl
 
 -- a name as it agrees with n, from the adjective and the noun of its row, in the form that stands at p
-pub name-is : (S : Settings) (name : Name) (row : List ℕ) → Row name row → (n p e : ℕ) → p / 6 ≡ agreed (n / 10 % 10) (n % 10) S .number → p % 6 ≡ agreed (n / 10 % 10) (n % 10) S .case
+pub name-is : (S : Settings) (name : Name) (row : List ℕ) → Row name row → (n p e : ℕ) → FormAt (agreed (n / 10 % 10) (n % 10) S) p
     → part ukPool e ≡ form2 (endings (classAt (getD row 2 0))) (p / 6) (p % 6)
-    → adjectiveIn (getD row 0 0) (p / 6) (p % 6) ++ ((part ukPool (getD row 1 0) ++ part ukPool e) ∷ []) ≡ agreedName S name n
+    → adjectiveIn (agreed (n / 10 % 10) (n % 10) S) (getD row 0 0) ++ ((part ukPool (getD row 1 0) ++ part ukPool e) ∷ []) ≡ agreedName S name n
 unfolding agreedName
-name-is S name row r n p e a b f = rw (f, a, b, r .forms (agreed (n / 10 % 10) (n % 10) S)) refl
+name-is S name row r n p e s f = rw (f, s .numberIs, s .caseIs, r .forms (agreed (n / 10 % 10) (n % 10) S)) refl
 
 -- it agrees with a number as with its lowest group
 pub agrees-low : (S : Settings) (name : Name) (gs : List ℕ) → agreedName S name (getD gs 0 0) ≡ agreedName S name (total gs)

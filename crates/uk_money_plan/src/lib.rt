@@ -11,6 +11,7 @@ ghost use lib.ListN.{length, getD};
 ghost use lib.Dec.{eqb};
 ghost use Rattle.settings.specs.Settings.{ukrainianRanges, Within};
 ghost use Rattle.settings.specs.Packed.{settingsIn};
+ghost use Rattle.settings.specs.declared.Settings.{Settings};
 ghost use Rattle.figures.specs.Groups.{total, Groups};
 ghost use Rattle.groups.specs.Highest.{ZeroFrom};
 ghost use Rattle.words.specs.Part.{part};
@@ -20,7 +21,7 @@ ghost use Rattle.plan.specs.Speaks.{Told};
 ghost use Rattle.uk.specs.Pool.{ukPool};
 ghost use Rattle.uk_money.specs.Nouns.{Name, agreedName};
 ghost use Rattle.uk_money.specs.Money.{countWords, amountPhrase};
-ghost use Rattle.uk_money.specs.Rows.{adjectiveIn, Row, currencyAt};
+ghost use Rattle.uk_money.specs.Rows.{adjectiveIn, FormAt, Row, currencyAt};
 
 // How many pieces a plan has room for: no amount has more than five for each of seven groups and five for its noun, and ten for its hundredths.
 pub const PLAN: usize = 52;
@@ -46,7 +47,7 @@ fn say_form(stem: u16, end: u16, plan: &mut [u32], at: usize) -> usize
 // The adjective of a name with this stem, if it has one.
 fn say_adjective(stem: u16, place: usize, plan: &mut [u32], at: usize) -> usize
     requires { ⌜ (place < 12) × (at + 2 ≤ length (now plan)) ⌝ }
-    ensures { λ r. ⌜ Told ukPool 2 (now (plan .entry)) at (now (plan .exit)) r (adjectiveIn stem (place / 6) (place % 6)) ⌝ }
+    ensures { λ r. ⌜ ((S : Settings) → FormAt S place → Told ukPool 2 (now (plan .entry)) at (now (plan .exit)) r (adjectiveIn S stem)) ⌝ }
 {
     if stem == 0 {
         return at;
@@ -59,7 +60,7 @@ fn say_name(row: &[u16; 4], settings: Settings, n: usize, plan: &mut [u32], at: 
     requires { ⌜ (getD (now row) 2 0 < 8) × Within (ukrainianRanges settings) × (at + 4 ≤ length (now plan)) ⌝ }
     ensures { λ r. ⌜ ((name : Name) → Row name (now (row .entry)) → Told ukPool 4 (now (plan .entry)) at (now (plan .exit)) r (agreedName settings name n)) ⌝ }
 {
-    let place = uk_money::agreed(n / 10 % 10, n % 10, settings);
+    let place = uk_money::agreed_place(n / 10 % 10, n % 10, settings);
     let k = say_adjective(row[0], place, plan, at);
     let class = row[2] as usize;
     say_form(row[1], uk_money::ending(class, place), plan, k)

@@ -11,7 +11,7 @@ pub say-adjective-spec : {M : Type 1} → statement M
 say-adjective-spec =
     tie.close
     (tie.spec
-    (λ c. retell 2 (quiet 2 _ _) (omega arith) (no-adjective _ _ _ (c .if1 .taken)))
+    (λ c S p. retell 2 (quiet 2 _ _) (omega arith) (no-adjective S _ (c .if1 .taken)))
     (λ c κs. search needs) (λ c κs. search needs)
     (λ c. search needs)
-    (λ c. retell 2 (c .before .before .say-form .ensures) (omega arith) (adjective-is _ _ _ _ (c .before .before .before .before .before .if1 .left) (c .before .before .before .before .ending .ensures))))
+    (λ c S p. retell 2 (c .before .before .say-form .ensures) (omega arith) (adjective-is S _ _ _ p (c .before .before .before .before .before .if1 .left) (c .before .before .before .before .ending .ensures))))
