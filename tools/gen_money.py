@@ -102,7 +102,7 @@ def lines(table, indent='    '):
 
 
 def tables_spec():
-    out = '''-- The endings of the currency nouns, as uk.rs has them: by grammatical number, then case.
+    out = '''-- The endings of the currency nouns (01, "Ukrainian money"), as uk.rs has them: by grammatical number, then case.
 -- Assumes nothing.
 use Prim.Native.String.{String}
 use mathlib.Core.List.{List, [], _∷_}

@@ -21,7 +21,3 @@ joinedBy j (w ∷ ws) = w ++ spacedBy j ws
 -- joined by single spaces
 abbrev pub joined : List Word → List ℕ
 joined ws = joinedBy space ws
-
--- words after others, each with a space before it
-abbrev pub spaced : List Word → List ℕ
-spaced ws = spacedBy space ws

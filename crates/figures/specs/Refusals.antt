@@ -12,7 +12,14 @@ use Rattle.figures.specs.Text.{value, negative, unsigned, wellFormed}
 use Rattle.figures.specs.Money.{wholeOf, moneyFormed, moneyLimit}
 use Rattle.figures.specs.Year.{yearLimit}
 
--- of a cardinal's text, of at most so many digits: 66 in Ukrainian, 102 in French
+-- the most digits of a number text: "Ukrainian: at most 66 digits (22 groups). French: 102 (34 groups)."
+abbrev pub ukrainianDigitLimit : ℕ
+ukrainianDigitLimit = 66
+
+abbrev pub frenchDigitLimit : ℕ
+frenchDigitLimit = 102
+
+-- of a cardinal's text, of at most so many digits
 abbrev pub cardinalRefusals : ℕ → List ℕ → List (Bool × ℕ)
 cardinalRefusals most t = (not (wellFormed t), malformed) ∷ (ltb most (length (unsigned t)), tooLarge) ∷ []
 

@@ -1,4 +1,4 @@
--- The words of a French group, rule by rule as document 01 has them ("French"). A word may have a hyphen or ` et ` in it, as in fr.rs.
+-- French, rule by rule as 01 has it ("French"): the words of a group, an ordinal's last word, and what the language has for its cardinals. A word may have a hyphen or ` et ` in it, as in fr.rs.
 -- Orders count groups from 0; g is a group, h, t and u are its hundreds, tens and units digits.
 -- Assumes nothing.
 use Prim.Native.Nat.{ℕ, zero, suc, _-_, _/_, _%_}
@@ -8,7 +8,7 @@ use lib.Dec.{eqb}
 use Rattle.base.specs.Utf8.{utf8, form1}
 use Rattle.base.specs.Join.{Word}
 use Rattle.base.specs.Signs.{space, hyphen, letterE}
-use Rattle.settings.specs.Settings.{feminine}
+use Rattle.settings.specs.Settings.{feminine, newSpelling, regionFR, regionCH}
 use Rattle.settings.specs.declared.Settings.{Settings}
 use Rattle.cardinals.specs.Lexicon.{Lexicon}
 use Rattle.fr.specs.FrTables.{units, tens, teens, megas}
@@ -17,17 +17,17 @@ use Rattle.fr.specs.FrTables.{units, tens, teens, megas}
 abbrev pub isFeminine : Settings → Bool
 isFeminine S = eqb (S .gender) feminine
 
--- "reformed 0 or 1"
+-- the spelling is reformed
 abbrev pub isReformed : Settings → Bool
-isReformed S = eqb (S .reformed) 1
+isReformed S = eqb (S .reformed) newSpelling
 
--- "region 0 FR, 1 BE, 2 CH": it is FR
+-- the region is FR
 abbrev pub inFR : Settings → Bool
-inFR S = eqb (S .region) 0
+inFR S = eqb (S .region) regionFR
 
 -- it is CH
 abbrev pub inCH : Settings → Bool
-inCH S = eqb (S .region) 2
+inCH S = eqb (S .region) regionCH
 
 -- the order is 0
 abbrev pub isLowest : ℕ → Bool
@@ -40,7 +40,7 @@ isMille zero = false
 isMille (suc zero) = true
 isMille (suc (suc k)) = false
 
--- the byte between words: "a space, or `-` if reformed"
+-- the byte between words: "joined by a space, or by `-` if reformed"
 abbrev pub frenchJoiner : Settings → ℕ
 frenchJoiner S = cond (isReformed S) hyphen space
 
@@ -138,10 +138,14 @@ nthWords [] = []
 nthWords (w ∷ []) = nth w ∷ []
 nthWords (w ∷ v ∷ ws) = w ∷ nthWords (v ∷ ws)
 
--- what French has for its cardinals: 34 orders ("Number texts"), the joiner, "Zero is `zéro`; negative begins `moins`"
+-- how many orders its numbers have: those of 102 digits ("Number texts")
+abbrev pub frenchOrders : ℕ
+frenchOrders = 34
+
+-- what French has for its cardinals: its orders, the joiner, "Zero is `zéro`; negative begins `moins`"
 unfoldable pub french : Settings → Lexicon
 french S = record {
-  orders = 34;
+  orders = frenchOrders;
   joiner = frenchJoiner S;
   zeroWord = utf8 "zéro";
   minusWord = utf8 "moins";

@@ -16,7 +16,7 @@ ghost use Rattle.base.specs.Answer.{fitted, Answers};
 ghost use Rattle.base.specs.Decides.{Decides};
 ghost use Rattle.settings.specs.Settings.{frenchRanges, Within};
 ghost use Rattle.words.specs.Part.{part};
-ghost use Rattle.plan.specs.Phrase.{phrase};
+ghost use Rattle.plan.specs.Phrase.{phraseOf};
 ghost use Rattle.plan.specs.Plan.{pieces, says};
 ghost use Rattle.fr.specs.Pool.{frPool};
 ghost use Rattle.fr.specs.FrTables.{units, teens};
@@ -53,7 +53,7 @@ pub fn texts() -> [u8; pool::SIZE]
 // Answers with what the first n pieces of a plan say.
 pub fn speak(plan: &[u32], n: usize, out: &mut [u8]) -> Answer
     requires { ⌜ (n ≤ length (now plan)) × (n ≤ 1000) ⌝ }
-    ensures { λ r. ⌜ Answers r (now (out .entry)) (now (out .exit)) (fitted (now (out .entry)) (phrase (says frPool (now (plan .entry)) n))) ⌝ }
+    ensures { λ r. ⌜ Answers r (now (out .entry)) (now (out .exit)) (fitted (now (out .entry)) (phraseOf (says frPool (now (plan .entry)) n))) ⌝ }
     ensures { λ r. ⌜ r .length ≤ 40 * n ⌝ }
 {
     let lent = texts();
@@ -62,7 +62,7 @@ pub fn speak(plan: &[u32], n: usize, out: &mut [u8]) -> Answer
 
 // Whether s is the phrase of a plan.
 pub fn stands(plan: &[u32], s: &[u8]) -> bool
-    ensures { λ r. ⌜ Decides r (phrase (pieces frPool (now (plan .entry))) ≡ now (s .entry)) ⌝ }
+    ensures { λ r. ⌜ Decides r (phraseOf (pieces frPool (now (plan .entry))) ≡ now (s .entry)) ⌝ }
 {
     let lent = texts();
     plan::stands(&lent, plan, s)

@@ -7,7 +7,7 @@ use Rattle.settings.specs.Settings.{frenchRanges}
 use Rattle.settings.specs.Refused.{outOfRange}
 use Rattle.settings.specs.declared.Settings.{Settings}
 use Rattle.figures.specs.Text.{value, negative, unsigned}
-use Rattle.figures.specs.Refusals.{cardinalRefusals, ordinalRefusals}
+use Rattle.figures.specs.Refusals.{frenchDigitLimit, cardinalRefusals, ordinalRefusals}
 use Rattle.figures.specs.Value.{NumberMeans}
 use Rattle.cardinals.specs.Cardinal.{cardinalPhrase}
 use Rattle.cardinals.specs.Grammar.{Says}
@@ -15,16 +15,16 @@ use Rattle.fr.specs.Rules.{french}
 use Rattle.fr.specs.Ordinal.{nthPhrase}
 use Rattle.fr.specs.Grammar.{SaysNth}
 
--- the cardinal of a number text, at most 102 digits ("Number texts")
+-- the cardinal of a number text
 abbrev pub frToCardinal : Settings → List ℕ → Spelling
 frToCardinal S t = record {
-  refusal = firstOf (outOfRange (frenchRanges S) ∷ cardinalRefusals 102 t);
+  refusal = firstOf (outOfRange (frenchRanges S) ∷ cardinalRefusals frenchDigitLimit t);
   phrase = cardinalPhrase (french S) (negative t) (value (unsigned t));
 }
 
 -- its ordinal
 abbrev pub frToOrdinal : Settings → List ℕ → Spelling
-frToOrdinal S t = record { refusal = firstOf (outOfRange (frenchRanges S) ∷ ordinalRefusals 102 t); phrase = nthPhrase S (value (unsigned t)) }
+frToOrdinal S t = record { refusal = firstOf (outOfRange (frenchRanges S) ∷ ordinalRefusals frenchDigitLimit t); phrase = nthPhrase S (value (unsigned t)) }
 
 -- the phrase s is a cardinal whose value is the number text t
 abbrev pub FrCardinalMeans : Settings → List ℕ → List ℕ → Type 0

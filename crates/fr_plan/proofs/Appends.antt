@@ -9,7 +9,7 @@ use lib.ListN.{length, take, set, length-set}
 use lib.Seq.{take-suc-set}
 use Rattle.base.specs.Join.{Word, spacedBy, joinedBy}
 use Rattle.words.specs.Part.{part}
-use Rattle.plan.specs.Phrase.{gap, following, phrase}
+use Rattle.plan.specs.Phrase.{gap, following, phraseOf}
 use Rattle.plan.specs.Plan.{pieceOf, pieces, says}
 use Rattle.plan.proofs.Laws.{following-append}
 use Rattle.fr.specs.Pool.{frPool}
@@ -101,8 +101,8 @@ pub as-word : {k n r j : ℕ} {xs ys v w : List ℕ} → Appended k xs n ys r (j
 as-word a e = rw (← e) a
 
 -- the phrase of a plan from its beginning
-phrase-is : (j : ℕ) (cs : List ℕ) (ws : List Word) → Opens cs → following (pieces frPool cs) ≡ spacedBy j ws → phrase (pieces frPool cs) ≡ joinedBy j ws
-unfolding following phrase pieces pieceOf
+phrase-is : (j : ℕ) (cs : List ℕ) (ws : List Word) → Opens cs → following (pieces frPool cs) ≡ spacedBy j ws → phraseOf (pieces frPool cs) ≡ joinedBy j ws
+unfolding following phraseOf pieces pieceOf
 phrase-is j [] [] o e = refl
 phrase-is j [] (w ∷ ws) o e = let z : _≡_ {A = ℕ} 0 (suc (length (w ++ spacedBy j ws))) = ap length e in absurd (omega arith)
 phrase-is j (c ∷ cs) ws o e = go (c % 256) o ws e
@@ -113,6 +113,6 @@ phrase-is j (c ∷ cs) ws o e = go (c % 256) o ws e
     go (suc s) o [] e = let z : _≡_ {A = ℕ} (suc (length (part frPool (c / 256) ++ following (pieces frPool cs)))) 0 = ap length e in absurd (omega arith)
     go (suc s) o (w ∷ ws) e = cc
 
-pub whole-phrase : {k r : ℕ} {xs ys : List ℕ} (j : ℕ) (ws : List Word) → Appended k xs 0 ys r (spacedBy j ws) → phrase (says frPool ys r) ≡ joinedBy j ws
+pub whole-phrase : {k r : ℕ} {xs ys : List ℕ} (j : ℕ) (ws : List Word) → Appended k xs 0 ys r (spacedBy j ws) → phraseOf (says frPool ys r) ≡ joinedBy j ws
 unfolding says
-whole-phrase j ws t = ap (λ (l : List ℕ). phrase (pieces frPool l)) (t .more) ∙ phrase-is j (t .codes) ws (t .opens) (t .speaks)
+whole-phrase j ws t = ap (λ (l : List ℕ). phraseOf (pieces frPool l)) (t .more) ∙ phrase-is j (t .codes) ws (t .opens) (t .speaks)

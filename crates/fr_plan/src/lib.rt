@@ -10,7 +10,7 @@ ghost use lib.ListN.{length};
 ghost use Rattle.words.specs.Part.{part};
 ghost use Rattle.figures.specs.Groups.{total};
 ghost use Rattle.groups.specs.Highest.{ZeroFrom, Highest};
-ghost use Rattle.plan.specs.Phrase.{phrase as phraseOf};
+ghost use Rattle.plan.specs.Phrase.{phraseOf};
 ghost use Rattle.plan.specs.Plan.{says};
 ghost use Rattle.fr.specs.Pool.{frPool};
 ghost use Rattle.base.specs.Join.{spacedBy};

@@ -15,7 +15,7 @@ use Rattle.walker.specs.Walk.{found}
 use Rattle.walker.specs.declared.Found.{Found}
 use Rattle.walker.proofs.Steps.{goes-on, goes-within, goes-far}
 use Rattle.fr_meanings.specs.Meanings.{meaningOf}
-use Rattle.plan.specs.Phrase.{phrase}
+use Rattle.plan.specs.Phrase.{phraseOf}
 use Rattle.plan.specs.Plan.{pieces, says}
 use Rattle.fr.specs.Pool.{frPool}
 use Rattle.fr_read.specs.Reading.{meant, meanings, grow, times, one, guess, seems, isMinus, behindMinus}
@@ -152,6 +152,6 @@ module _ (s : List ℕ) (m n : ℕ) (e : meanings s ≡ m ∷ meanings (drop n s
       (a, b, omega arith)
 
 -- a plan that stands
-pub plan-stands : (b : Bool) (plan p s : List ℕ) (n : ℕ) → Decides b (phrase (pieces frPool (take n plan)) ≡ s) → phrase (says frPool plan n) ≡ p → Decides b (p ≡ s)
+pub plan-stands : (b : Bool) (plan p s : List ℕ) (n : ℕ) → Decides b (phraseOf (pieces frPool (take n plan)) ≡ s) → phraseOf (says frPool plan n) ≡ p → Decides b (p ≡ s)
 unfolding says
 plan-stands b plan p s n d e = rw e at d

@@ -8,6 +8,7 @@ use lib.Dec.{eqb, ltb}
 use lib.ListN.{drop}
 use Rattle.base.specs.Join.{Word}
 use Rattle.tokens.specs.Tokens.{split, key}
+use Rattle.fr.specs.Rules.{frenchOrders}
 use Rattle.fr_meanings.specs.Meanings.{meaningOf}
 
 -- the meaning of a word: 1 to 100 a number, 1000 + k the scale word of order k, 2001 the minus word, 0 any other
@@ -61,4 +62,4 @@ behindMinus ms = cond (isMinus ms) (drop 1 ms) ms
 
 -- the groups of a text
 unfoldable pub guessed : List ℕ → List ℕ
-guessed ms = reads 34 (seems 0 0 ms)
+guessed ms = reads frenchOrders (seems 0 0 ms)

@@ -41,7 +41,7 @@ module _ (n o : ℕ) (s : (i : ℕ) → i < o → n / 1000 ^ i ≡ 0 → ⊥) wh
 
   pub all-orders : (k : ℕ) → o ≤ k → n / 1000 ^ o ≡ 0 → Highest (groupsOf k n) o
   all-orders k h z = record {
-    within = rw groups-length h;
+    fits = rw groups-length h;
     zeros = small-zeros n o k (omega (arith, div-lt-iff-lt-mul {k = 1000 ^ o} {x = n} {y = 1} (one-le-pow o 1000 (omega arith)) .0 (omega arith)));
     some = λ l e.
         let q : o - 1 + 1 ≡ o = omega arith in
@@ -52,7 +52,7 @@ module _ (n o : ℕ) (s : (i : ℕ) → i < o → n / 1000 ^ i ≡ 0 → ⊥) wh
 -- the text's digits tell its orders
 pub counted : (s : List ℕ) → plain s ≡ true → (k : ℕ) → (length s + 2) / 3 ≤ k → Highest (groupsOf k (value s)) ((length s + 2) / 3)
 counted s p k h = record {
-  within = rw groups-length h;
+  fits = rw groups-length h;
   zeros = small-zeros (value s) ((length s + 2) / 3) k (hold ((length s + 2) / 3) s (plain-digits s p) (omega arith));
   some = λ l e. most s p ((length s + 2) / 3 - 1) (omega arith) (omega arith) (omega arith) (sym (groups-at k (value s) ((length s + 2) / 3 - 1) (omega arith)) ∙ e);
 }
@@ -71,7 +71,7 @@ zeros-all (suc k) zero h = refl
 zeros-all (suc k) (suc i) h = zeros-all k i (omega arith)
 
 pub zeros-highest : (k : ℕ) → Highest (replicate k 0) 0
-zeros-highest k = record { within = omega arith; zeros = zeros-all k; some = λ h. absurd (omega arith) }
+zeros-highest k = record { fits = omega arith; zeros = zeros-all k; some = λ h. absurd (omega arith) }
 
 pub zeros-then : (gs : List ℕ) (n : ℕ) → ZeroFrom gs n → ZeroFrom (gs ++ (0 ∷ [])) n
 zeros-then gs n z i h = last gs i ∙ z i h
@@ -111,7 +111,7 @@ module _ (gs : List ℕ) (n : ℕ) (z : ZeroFrom gs n) where
       go (no q) = z i (omega arith)
 
   pub top-is : n ≤ length gs → (0 < n → getD gs (n - 1) 0 ≡ 0 → ⊥) → Highest gs n × (0 < n → getD gs (n - 1) 0 ≡ 0 → ⊥)
-  top-is w s = (record { within = w; zeros = z; some = λ h. s (omega arith) }, s)
+  top-is w s = (record { fits = w; zeros = z; some = λ h. s (omega arith) }, s)
 
 -- of a top as `top` gives it: it is 0 just where the number is
 pub top-zero : (gs : List ℕ) (r : ℕ) → Highest gs r → (0 < r → getD gs (r - 1) 0 ≡ 0 → ⊥) → eqb r 0 ≡ eqb (total gs) 0

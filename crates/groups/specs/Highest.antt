@@ -11,6 +11,6 @@ ZeroFrom gs n = (i : ℕ) → n ≤ i → getD gs i 0 ≡ 0
 
 -- n orders hold a number's groups: those from n on are 0, and where n is above 1 the highest of them is not
 pub record Highest (gs : List ℕ) (n : ℕ) : Type 0 where
-  pub within : n ≤ length gs
+  pub fits : n ≤ length gs
   pub zeros : ZeroFrom gs n
   pub some : 1 < n → getD gs (n - 1) 0 ≡ 0 → ⊥

@@ -25,12 +25,12 @@ module _ (gs : List ℕ) (g : Groups gs) (n : ℕ) (t : Highest gs n) where
   size-none e = rw (total-none gs (rw e at (t .zeros)))
 
   below-top : total gs < 1000 ^ n
-  below-top = rw (total-take gs n (t .zeros), length-take-le n gs (t .within)) at (total-lt (take n gs) (groups-take gs n g))
+  below-top = rw (total-take gs n (t .zeros), length-take-le n gs (t .fits)) at (total-lt (take n gs) (groups-take gs n g))
 
   pub size-some : length gs ≤ 34 → (n ≡ 0 → ⊥) → (n - 1) * 3 + length (decimal (getD gs (n - 1) 0)) ≡ length (decimal (total gs))
   size-some m z =
       let o : ℕ = n - 1 in
-      let w : n ≤ length gs = t .within in
+      let w : n ≤ length gs = t .fits in
       let e : suc o ≡ n = omega arith in
       let l : total gs / 1000 ^ o < 1000 = div-lt-iff-lt-mul (one-le-pow o 1000 (omega arith)) .1 (rw (← pow-succ' 1000 o, e) below-top) in
       let x : getD gs o 0 ≡ total gs / 1000 ^ o % 1000 = group-of gs o g (omega arith) in

@@ -86,6 +86,10 @@ form (k ∷ l ∷ []) = none
 form (k ∷ []) = none
 form [] = none
 
--- "one bracket form a line of at most 512 bytes"
+-- "at most 512 bytes"
+abbrev pub longestLine : ℕ
+longestLine = 512
+
+-- "one bracket form a line"
 unfoldable pub answerLine : List ℕ → List ℕ
-answerLine s = cond (leb (length s) 512) (answerTo (form (wordsOf s))) badLine
+answerLine s = cond (leb (length s) longestLine) (answerTo (form (wordsOf s))) badLine

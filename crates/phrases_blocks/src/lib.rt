@@ -6,7 +6,7 @@ ghost use mathlib.Core.Path.{_≡_};
 ghost use mathlib.Core.Bool.{true};
 ghost use Prim.Native.Nat.{_≤_};
 ghost use lib.ListN.{length, take};
-ghost use Rattle.phrases_lines.specs.Program.{isLine};
+ghost use Rattle.phrases_lines.specs.Held.{isLine};
 
 // Feeds one block, and writes what comes of it as often as out is full.
 fn pass(block: &[u8], line: &mut [u8], n: usize, out: &mut [u8]) -> usize

@@ -11,7 +11,8 @@ use lib.Seq.{take-suc, take-suc-set, take-at, drop-at, take-take, length-take-le
 use borrow.Rule.Slice.PartMut.{putMid}
 use Rattle.base.specs.Buffer.{over}
 use Rattle.phrases_answers.specs.Answers.{answerLine}
-use Rattle.phrases_lines.specs.Program.{program, isLine, Answered}
+use Rattle.phrases_lines.specs.Program.{program, Answered}
+use Rattle.phrases_lines.specs.Held.{isLine}
 use Rattle.phrases_lines.proofs.Lines.{line-ends, goes-on}
 
 -- the buffer xs with t written after its first u bytes
@@ -40,8 +41,8 @@ module _ (p : List ℕ) (b : ℕ) (l : isLine p ≡ true) where
   pub ended : (w : List ℕ) → b ≡ 10 → w ≡ answerLine p → Answered p (b ∷ []) w []
   ended w e f rest = rw (e, f) (line-ends p rest l)
 
-  pub joined : (w q : List ℕ) → w ≡ [] → q ≡ p ++ (b ∷ []) → Answered p (b ∷ []) w q
-  joined w q e f rest = rw (e, f) (ap program (sym (append-assoc p (b ∷ []) rest)))
+  pub lengthened : (w q : List ℕ) → w ≡ [] → q ≡ p ++ (b ∷ []) → Answered p (b ∷ []) w q
+  lengthened w q e f rest = rw (e, f) (ap program (sym (append-assoc p (b ∷ []) rest)))
 
   pub too-much : (w : List ℕ) → (b ≡ 10 → ⊥) → 513 ≤ length p → w ≡ [] → Answered p (b ∷ []) w p
   too-much w z h e rest = rw e (goes-on p b rest l z h)

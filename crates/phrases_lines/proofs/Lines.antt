@@ -11,7 +11,8 @@ use lib.ListN.{length, length-append}
 use Rattle.tables.proofs.Tests.{clash-of as clash}
 use Rattle.base.specs.Divide.{toFirst, divided}
 use Rattle.phrases_answers.specs.Answers.{answerLine, badLine}
-use Rattle.phrases_lines.specs.Program.{parts, lastAnswer, answers, program, isLine}
+use Rattle.phrases_lines.specs.Program.{parts, lastAnswer, answers, program}
+use Rattle.phrases_lines.specs.Held.{isLine}
 
 -- a line's bytes put before the first line
 before : List ℕ → List (List ℕ) → List (List ℕ)

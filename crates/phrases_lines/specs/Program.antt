@@ -2,9 +2,7 @@
 -- Assumes nothing.
 use Prim.Native.Nat.{ℕ}
 use mathlib.Core.Path.{_≡_}
-use mathlib.Core.Bool.{Bool, true, not, _&&_}
 use mathlib.Core.List.{List, [], _∷_, _++_}
-use lib.Dec.{eqb}
 use Rattle.base.specs.Divide.{divided}
 use Rattle.base.specs.Signs.{lineFeed}
 use Rattle.phrases_answers.specs.Answers.{answerLine}
@@ -27,11 +25,6 @@ answers (l ∷ m ∷ ls) = answerLine l ++ answers (m ∷ ls)
 -- what is written to an input
 unfoldable pub program : List ℕ → List ℕ
 program s = answers (parts s)
-
--- no line feed stands in a line
-unfoldable pub isLine : List ℕ → Bool
-isLine [] = true
-isLine (b ∷ s) = not (eqb b lineFeed) && isLine s
 
 -- the line so far p and then the bytes of a block came in, w was written, and the line so far is q: whatever follows, what was written and what will
 -- be is the answer to all of it

@@ -5,7 +5,8 @@ ghost use mathlib.Core.List.{[], _∷_};
 ghost use Prim.Native.Nat.{_+_, _≤_, _<_};
 ghost use lib.ListN.{length, take, drop};
 ghost use Rattle.base.specs.Buffer.{over};
-ghost use Rattle.phrases_lines.specs.Program.{program, isLine, Answered};
+ghost use Rattle.phrases_lines.specs.Program.{program, Answered};
+ghost use Rattle.phrases_lines.specs.Held.{isLine};
 
 // How many bytes of a line are held: one more than the longest has, so that a longer one is known.
 pub const HELD: usize = 513;

@@ -9,7 +9,7 @@ use lib.ListN.{length, getD, take, drop, set, length-append, length-drop, drop-o
 use lib.Seq.{take-all, take-suc, split-at, take-suc-set, take-append-seam, drop-append-seam, drop-drop}
 use Rattle.base.specs.Buffer.{over}
 use Rattle.words.specs.Part.{part}
-use Rattle.plan.specs.Phrase.{Piece, gap, following, phrase}
+use Rattle.plan.specs.Phrase.{Piece, gap, following, phraseOf}
 use Rattle.plan.specs.Plan.{pieceOf, pieces, says, Added}
 
 -- what the code lends as `&s[k..]`
@@ -57,8 +57,8 @@ module _ (pool : List ℕ) where
         rw (add-one n, take-suc-set xs n (i * 256 + s), map-append, p, q) refl;
   }
 
-  pub none : (xs : List ℕ) → length xs ≡ 0 → (following (pieces pool xs) ≡ []) × (phrase (pieces pool xs) ≡ [])
-  unfolding following phrase pieces
+  pub none : (xs : List ℕ) → length xs ≡ 0 → (following (pieces pool xs) ≡ []) × (phraseOf (pieces pool xs) ≡ [])
+  unfolding following phraseOf pieces
   none [] h = (refl, refl)
   none (x ∷ xs) h = absurd (omega arith)
 
@@ -70,8 +70,8 @@ module _ (pool : List ℕ) where
   first-following (x ∷ xs) h = rw (from-is 1 (x ∷ xs), append-nil) refl
 
   pub first-phrase : (xs : List ℕ) → (length xs ≡ 0 → ⊥)
-      → phrase (pieces pool xs) ≡ part pool (getD xs 0 0 / 256) ++ following (pieces pool (from 1 xs))
-  unfolding phrase pieces pieceOf
+      → phraseOf (pieces pool xs) ≡ part pool (getD xs 0 0 / 256) ++ following (pieces pool (from 1 xs))
+  unfolding phraseOf pieces pieceOf
   first-phrase [] h = absurd (h refl)
   first-phrase (x ∷ xs) h = rw (from-is 1 (x ∷ xs)) refl
 
@@ -80,7 +80,7 @@ module _ (pool : List ℕ) where
       → length (following (pieceOf pool (getD xs 0 0) ∷ [])) + length (following (pieces pool (from 1 xs))) ≤ n
   room-following xs n h k = rw (first-following xs h, length-append) at k
 
-  pub room-phrase : (xs : List ℕ) (n : ℕ) → (length xs ≡ 0 → ⊥) → length (phrase (pieces pool xs)) ≤ n
+  pub room-phrase : (xs : List ℕ) (n : ℕ) → (length xs ≡ 0 → ⊥) → length (phraseOf (pieces pool xs)) ≤ n
       → length (part pool (getD xs 0 0 / 256)) + length (following (pieces pool (from 1 xs))) ≤ n
   room-phrase xs n h k = rw (first-phrase xs h, length-append) at k
 

@@ -6,7 +6,7 @@ use native.Mathlib.Omega.{arith}
 use lib.ListN.{length, take, length-append}
 use lib.Seq.{length-take-le}
 use Rattle.words.proofs.Parts.{part-short}
-use Rattle.plan.specs.Phrase.{gap, following, phrase}
+use Rattle.plan.specs.Phrase.{gap, following, phraseOf}
 use Rattle.plan.specs.Plan.{pieceOf, pieces, says}
 
 gap-short : (s : ℕ) → length (gap s) ≤ 1
@@ -19,11 +19,11 @@ following-short pool [] = omega arith
 following-short pool (x ∷ xs) =
     rw (length-append, length-append) (omega (arith, gap-short (x % 256), part-short pool (x / 256), following-short pool xs))
 
-pieces-short : (pool xs : List ℕ) → length (phrase (pieces pool xs)) ≤ 40 * length xs
-unfolding phrase pieces pieceOf
+pieces-short : (pool xs : List ℕ) → length (phraseOf (pieces pool xs)) ≤ 40 * length xs
+unfolding phraseOf pieces pieceOf
 pieces-short pool [] = omega arith
 pieces-short pool (x ∷ xs) = rw length-append (omega (arith, part-short pool (x / 256), following-short pool xs))
 
-pub says-short : (pool xs : List ℕ) (n : ℕ) → n ≤ length xs → length (phrase (says pool xs n)) ≤ 40 * n
+pub says-short : (pool xs : List ℕ) (n : ℕ) → n ≤ length xs → length (phraseOf (says pool xs n)) ≤ 40 * n
 unfolding says
 says-short pool xs n h = omega (arith, pieces-short pool (take n xs), length-take-le n xs h)

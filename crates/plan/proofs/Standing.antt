@@ -15,7 +15,7 @@ use Rattle.base.specs.Decides.{Decides}
 use Rattle.words.specs.Part.{part}
 use Rattle.base.specs.Front.{begins, passed}
 use Rattle.base.proofs.Fronts.{begins-is, begins-own, passed-true, passed-false}
-use Rattle.plan.specs.Phrase.{Piece, gap, following, phrase}
+use Rattle.plan.specs.Phrase.{Piece, gap, following, phraseOf}
 use Rattle.plan.specs.Plan.{pieceOf, pieces}
 use Rattle.plan.specs.Stands.{isNil, stands}
 use Rattle.plan.proofs.Laws.{from, from-is, none, first-phrase, bare, spaced}
@@ -110,7 +110,7 @@ module _ (pool : List ℕ) where
   module _ (xs s : List ℕ) (h : length xs ≡ 0 → ⊥) where
     -- the first word of a phrase, and the part after it
     module _ (n : ℕ) (e : n ≡ passed (part pool (getD xs 0 0 / 256)) s) where
-      pub first-not : n ≡ 0 → Decides false (phrase (pieces pool xs) ≡ s)
+      pub first-not : n ≡ 0 → Decides false (phraseOf (pieces pool xs) ≡ s)
       first-not z = record {
         holds = λ q. clash q;
         fails = λ q f.
@@ -120,7 +120,7 @@ module _ (pool : List ℕ) where
             clash (sym (passed-none w s n e z) ∙ ap (begins w) (sym g) ∙ begins-own w r);
       }
 
-      pub first-on : (n ≡ 0 → ⊥) → (b : Bool) → b ≡ stands (pieces pool (from 1 xs)) (from (n - 1) s) → Decides b (phrase (pieces pool xs) ≡ s)
+      pub first-on : (n ≡ 0 → ⊥) → (b : Bool) → b ≡ stands (pieces pool (from 1 xs)) (from (n - 1) s) → Decides b (phraseOf (pieces pool xs) ≡ s)
       first-on z b f =
           let w = part pool (getD xs 0 0 / 256) in
           let r = following (pieces pool (from 1 xs)) in
@@ -134,7 +134,7 @@ module _ (pool : List ℕ) where
                 clash (sym q ∙ d ∙ ap (stands (pieces pool (from 1 xs))) (sym m) ∙ stands-own (pieces pool (from 1 xs)));
           }
 
-  pub none-is : (xs s : List ℕ) → length xs ≡ 0 → Decides (eqb (length s) 0) (phrase (pieces pool xs) ≡ s)
+  pub none-is : (xs s : List ℕ) → length xs ≡ 0 → Decides (eqb (length s) 0) (phraseOf (pieces pool xs) ≡ s)
   none-is xs [] h = record { holds = λ q. none pool xs h .1; fails = λ q. clash (sym q) }
   none-is xs (b ∷ s) h = record { holds = λ q. clash (sym (ne-eqb (length (b ∷ s)) 0 (λ e. omega arith)) ∙ q); fails = λ q f. let g : [] ≡ b ∷ s = sym (none pool xs h .1) ∙ f in absurd (omega (arith, ap length g)) }
 

@@ -5,8 +5,9 @@ use Prim.Native.Nat.{ℕ, _+_, _≤_}
 use mathlib.Core.Path.{_≡_, refl, sym, ap, _∙_}
 use mathlib.Core.List.{List, [], _∷_, _++_, append-assoc}
 use native.Mathlib.Omega.{arith}
-use Rattle.base.specs.Join.{Word, spaced, joined}
-use Rattle.plan.specs.Phrase.{Piece, following, phrase}
+use Rattle.base.specs.Join.{Word, spacedBy, joined}
+use Rattle.base.specs.Signs.{space}
+use Rattle.plan.specs.Phrase.{Piece, following, phraseOf}
 use Rattle.plan.specs.Plan.{Added, says, pieces}
 use Rattle.plan.specs.Speaks.{Speaks, none, whole, ended, Told}
 use Rattle.plan.proofs.Added.{stay, then, same}
@@ -36,20 +37,20 @@ pub told-ended : {pool : List ℕ} {j k n m r : ℕ} {xs ys zs b c w v : List �
 told-ended {j = j} {k = k} {b = b} {c = c} a d e f = rw (← e, ← f) (record { pieces = (32, b) ∷ (0, c) ∷ []; added = then (j + k) a d (omega arith); speaks = ended b c none })
 
 -- what pieces that say words say after others
-pub follows : {ps : List Piece} {ws : List Word} → Speaks ps ws → following ps ≡ spaced ws
+pub follows : {ps : List Piece} {ws : List Word} → Speaks ps ws → following ps ≡ spacedBy space ws
 unfolding following
 follows none = refl
 follows (whole w s) = rw (follows s) refl
-follows (ended w e {ws = ws} s) = rw (follows s) (ap (λ (l : List ℕ). 32 ∷ l) (sym (append-assoc w e (spaced ws))))
+follows (ended w e {ws = ws} s) = rw (follows s) (ap (λ (l : List ℕ). 32 ∷ l) (sym (append-assoc w e (spacedBy space ws))))
 
 -- pieces that say words say them joined
-pub phrase-is : {ps : List Piece} {ws : List Word} → Speaks ps ws → phrase ps ≡ joined ws
-unfolding phrase following
+pub phrase-is : {ps : List Piece} {ws : List Word} → Speaks ps ws → phraseOf ps ≡ joined ws
+unfolding phraseOf following
 phrase-is none = refl
 phrase-is (whole w s) = ap (λ (l : List ℕ). w ++ l) (follows s)
-phrase-is (ended w e {ws = ws} s) = rw (follows s) (sym (append-assoc w e (spaced ws)))
+phrase-is (ended w e {ws = ws} s) = rw (follows s) (sym (append-assoc w e (spacedBy space ws)))
 
 -- a plan from its beginning
-pub told-phrase : {pool : List ℕ} {k r : ℕ} {xs ys : List ℕ} {ws : List Word} → Told pool k xs 0 ys r ws → phrase (says pool ys r) ≡ joined ws
+pub told-phrase : {pool : List ℕ} {k r : ℕ} {xs ys : List ℕ} {ws : List Word} → Told pool k xs 0 ys r ws → phraseOf (says pool ys r) ≡ joined ws
 unfolding says pieces
-told-phrase t = ap phrase (t .added .more) ∙ phrase-is (t .speaks)
+told-phrase t = ap phraseOf (t .added .more) ∙ phrase-is (t .speaks)

@@ -11,7 +11,7 @@ ghost use Rattle.base.specs.Answer.{fitted, Answers};
 ghost use Rattle.base.specs.Decides.{Decides};
 ghost use Rattle.words.specs.Part.{part};
 ghost use Rattle.base.specs.Front.{passed};
-ghost use Rattle.plan.specs.Phrase.{following, phrase as phraseOf};
+ghost use Rattle.plan.specs.Phrase.{following, phraseOf};
 ghost use Rattle.plan.specs.Plan.{pieceOf, pieces, says, Added};
 ghost use Rattle.plan.specs.Stands.{stands as standsAs};
 

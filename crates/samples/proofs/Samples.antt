@@ -8,7 +8,7 @@ use native.Mathlib.Omega.{arith}
 use lib.Dec.{lit<}
 use Rattle.base.specs.Utf8.{utf8, form1, form2, form3}
 use Rattle.base.proofs.Same.{same-not}
-use Rattle.settings.specs.Settings.{ukrainianSettings}
+use Rattle.settings.specs.Settings.{accusative, inCase}
 use Rattle.tokens.specs.Tokens.{firstWord, afterWord, split, whole, key}
 use Rattle.meanings.specs.Lookup.{lookup}
 use Rattle.uk_meanings.specs.Meanings.{shifts, table, meaningOf}
@@ -30,7 +30,7 @@ use Rattle.fr.specs.Ordinal.{nthOf, nthPhrase}
 use Rattle.uk_read.specs.Reading.{Taken, taken, sums, signed, afterMinus}
 use Rattle.uk_read.proofs.Taking.{closed}
 use Rattle.uk_read.proofs.Falls.{sums-taken, sums-over}
-use Rattle.samples.specs.Samples.{ukCard, ukOrd, frCard, never, unread, Holds, samples, All}
+use Rattle.samples.specs.Samples.{usual, usualFrench, ukCard, ukOrd, frCard, never, unread, Holds, samples, All}
 use Rattle.samples.proofs.Unread.{no-sentence}
 
 -- `два тисячі`: what is made of it is 2000, whose phrase is another
@@ -63,25 +63,25 @@ sum-two = rw unsigned-words (above 20)
 unread-two : Holds (unread "два тисячі")
 unfolding form1 form2 form3 zeros gendered units teensBases teensFlexions tens hundreds thousandFlexions megaBases megaFlexions unitForm teenForm ukrainianDigits scaleEnding scaleNoun ukrainianGroup ukrainian groupsBelow cardinalWords cardinalPhrase
 unread-two =
-    no-sentence (ukrainianSettings 0 0 0) twoThousand false 2000 (lit< tt, (lit< tt, (lit< tt, tt))) unsigned-two sum-two
-    (same-not (cardinalPhrase (ukrainian (ukrainianSettings 0 0 0)) false 2000) twoThousand refl)
+    no-sentence usual twoThousand false 2000 (lit< tt, (lit< tt, (lit< tt, tt))) unsigned-two sum-two
+    (same-not (cardinalPhrase (ukrainian usual) false 2000) twoThousand refl)
 
 -- "Errors of habit"
-genitive-after-five : Holds (never (ukCard 0 0 3 "5000") "пʼять тисяч")
+genitive-after-five : Holds (never (ukCard (inCase accusative usual) "5000") "пʼять тисяч")
 unfolding form1 form2 form3 zeros gendered units teensBases teensFlexions tens hundreds thousandFlexions megaBases megaFlexions unitForm teenForm ukrainianDigits scaleEnding scaleNoun ukrainianGroup ukrainian groupsBelow cardinalWords cardinalPhrase
-genitive-after-five = same-not (ukCard 0 0 3 "5000" .phrase) (utf8 "пʼять тисяч") refl
+genitive-after-five = same-not (ukCard (inCase accusative usual) "5000" .phrase) (utf8 "пʼять тисяч") refl
 
-two-hundredth : Holds (never (ukOrd 0 0 0 "200") "двохсотий")
+two-hundredth : Holds (never (ukOrd usual "200") "двохсотий")
 unfolding form1 form2 form3 zeros gendered units teensBases teensFlexions tens hundreds thousandFlexions megaBases megaFlexions unitForm teenForm ukrainianDigits scaleEnding scaleNoun ukrainianGroup ukrainian groupsBelow cardinalWords cardinalPhrase ordinalZeroBase oneBase ordinalUnitBases ordinalTensBases hundredBase adjectiveHardFlexionsSingular adjectiveHardFlexionsPlural adjectiveSoftFlexionsSingular adjectiveSoftFlexionsPlural year flexion compoundDigits compoundWord plainWords lowestWords ordinalAt ordinalFrom ordinalWords yearNoun yearWords flatten
-two-hundredth = same-not (ukOrd 0 0 0 "200" .phrase) (utf8 "двохсотий") refl
+two-hundredth = same-not (ukOrd usual "200" .phrase) (utf8 "двохсотий") refl
 
-un-mille : Holds (never (frCard 0 0 0 "1000") "un mille")
+un-mille : Holds (never (frCard usualFrench "1000") "un mille")
 unfolding form1 frUnits frTens teens megas centWord hundredWords tenWord roundWord link unitWord pairWord tensWords megaName scaleWord scaleWords frenchGroup french groupsBelow cardinalWords cardinalPhrase withoutE nth nthWords nthOf nthPhrase
-un-mille = same-not (frCard 0 0 0 "1000" .phrase) (utf8 "un mille") refl
+un-mille = same-not (frCard usualFrench "1000" .phrase) (utf8 "un mille") refl
 
-ascii-apostrophe : Holds (never (ukCard 0 0 0 "5") "п'ять")
+ascii-apostrophe : Holds (never (ukCard usual "5") "п'ять")
 unfolding form1 form2 form3 zeros gendered units teensBases teensFlexions tens hundreds thousandFlexions megaBases megaFlexions unitForm teenForm ukrainianDigits scaleEnding scaleNoun ukrainianGroup ukrainian groupsBelow cardinalWords cardinalPhrase
-ascii-apostrophe = same-not (ukCard 0 0 0 "5" .phrase) (utf8 "п'ять") refl
+ascii-apostrophe = same-not (ukCard usual "5" .phrase) (utf8 "п'ять") refl
 
 pub samples-hold : All samples
 unfolding form1 form2 form3 zeros gendered units teensBases teensFlexions tens hundreds thousandFlexions megaBases megaFlexions unitForm teenForm ukrainianDigits scaleEnding scaleNoun ukrainianGroup ukrainian groupsBelow cardinalWords cardinalPhrase ordinalZeroBase oneBase ordinalUnitBases ordinalTensBases hundredBase adjectiveHardFlexionsSingular adjectiveHardFlexionsPlural adjectiveSoftFlexionsSingular adjectiveSoftFlexionsPlural year flexion compoundDigits compoundWord plainWords lowestWords ordinalAt ordinalFrom ordinalWords yearNoun yearWords flatten noun2stGroupHardDeclensions noun2stGroupSoftDeclensions noun1stGroupSoftDeclensionsVowel noun1stGroupHardDeclensions adjectiveHardMasculine hryvnias kopiykas endings formOf nameForms agreedName currencies currencyIn countWords amountWords amountPhrase frUnits frTens teens megas centWord hundredWords tenWord roundWord link unitWord pairWord tensWords megaName scaleWord scaleWords frenchGroup french withoutE nth nthWords nthOf nthPhrase

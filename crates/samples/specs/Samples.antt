@@ -4,38 +4,43 @@ use Prim.Native.Nat.{ℕ}
 use Prim.Native.String.{String}
 use mathlib.Core.Path.{_≡_}
 use mathlib.Core.List.{List, [], _∷_}
-use lib.IntN.{ℤ, pos, negℤ}
+use lib.IntN.{pos, negℤ}
 use Rattle.base.specs.Utf8.{utf8}
-use Rattle.base.specs.Answer.{Spelling}
-use Rattle.settings.specs.Settings.{ukrainianSettings, frenchSettings}
+use Rattle.base.specs.Answer.{malformed, wrongSign, tooLarge, Spelling}
+use Rattle.settings.specs.Settings.{masculine, feminine, singular, nominative, genitive, accusative, instrumental, locative, oldSpelling, newSpelling, regionFR, regionCH, ukrainianSettings, frenchSettings, inGender, inCase}
+use Rattle.settings.specs.declared.Settings.{Settings}
 use Rattle.uk_calls.specs.UkCardinals.{ukToCardinal, UkCardinalMeans}
 use Rattle.uk_ordinal_calls.specs.UkOrdinals.{ukToOrdinal, ukToYear}
 use Rattle.uk_money_calls.specs.MoneyCalls.{ukToCurrency}
 use Rattle.fr_calls.specs.FrCalls.{frToCardinal, frToOrdinal}
 
--- the definitions that the calls' contracts cite, by the calls' own numbers and texts
-abbrev pub ukCard : ℕ → ℕ → ℕ → String → Spelling
-ukCard g n c t = ukToCardinal (ukrainianSettings g n c) (utf8 t)
+-- "Ukrainian masculine, singular, nominative, or French masculine, unreformed, FR, unless named"
+abbrev pub usual : Settings
+usual = ukrainianSettings masculine singular nominative
 
-abbrev pub ukOrd : ℕ → ℕ → ℕ → String → Spelling
-ukOrd g n c t = ukToOrdinal (ukrainianSettings g n c) (utf8 t)
+abbrev pub usualFrench : Settings
+usualFrench = frenchSettings masculine oldSpelling regionFR
 
-abbrev pub ukYear : ℕ → ℕ → ℕ → ℤ → Spelling
-ukYear g n c y = ukToYear (ukrainianSettings g n c) y
+-- the definitions that the calls' contracts cite, of texts
+abbrev pub ukCard : Settings → String → Spelling
+ukCard S t = ukToCardinal S (utf8 t)
 
-abbrev pub ukMoney : ℕ → ℕ → ℕ → String → String → Spelling
-ukMoney g n c code t = ukToCurrency (ukrainianSettings g n c) (utf8 code) (utf8 t)
+abbrev pub ukOrd : Settings → String → Spelling
+ukOrd S t = ukToOrdinal S (utf8 t)
 
-abbrev pub frCard : ℕ → ℕ → ℕ → String → Spelling
-frCard f o r t = frToCardinal (frenchSettings f o r) (utf8 t)
+abbrev pub ukMoney : Settings → String → String → Spelling
+ukMoney S code t = ukToCurrency S (utf8 code) (utf8 t)
 
-abbrev pub frOrd : ℕ → ℕ → ℕ → String → Spelling
-frOrd f o r t = frToOrdinal (frenchSettings f o r) (utf8 t)
+abbrev pub frCard : Settings → String → Spelling
+frCard S t = frToCardinal S (utf8 t)
+
+abbrev pub frOrd : Settings → String → Spelling
+frOrd S t = frToOrdinal S (utf8 t)
 
 -- a line of the table: a call's phrase, its refusal, that it is not refused, a phrase that it does not say ("Errors of habit"), and a phrase that
--- is no sentence under masculine, singular, nominative
+-- is no sentence
 pub data Sample : Type 0 where
-  says : Spelling → String → Sample
+  spells : Spelling → String → Sample
   refuses : Spelling → ℕ → Sample
   passes : Spelling → Sample
   never : Spelling → String → Sample
@@ -43,11 +48,11 @@ pub data Sample : Type 0 where
 
 -- what a line says
 abbrev pub Holds : Sample → Type 0
-Holds (says S p) = (S .refusal ≡ 0) × (S .phrase ≡ utf8 p)
+Holds (spells S p) = (S .refusal ≡ 0) × (S .phrase ≡ utf8 p)
 Holds (refuses S n) = S .refusal ≡ n
 Holds (passes S) = S .refusal ≡ 0
 Holds (never S p) = S .phrase ≡ utf8 p → ⊥
-Holds (unread s) = (t : List ℕ) → UkCardinalMeans (ukrainianSettings 0 0 0) (utf8 s) t → ⊥
+Holds (unread s) = (t : List ℕ) → UkCardinalMeans usual (utf8 s) t → ⊥
 
 -- every line holds
 abbrev pub All : List Sample → Type 0
@@ -57,27 +62,27 @@ All (s ∷ ss) = Holds s × All ss
 -- the table: phrases, refusals, and "Errors of habit"
 abbrev pub samples : List Sample
 samples =
-    says (ukCard 1 0 0 "42") "сорок дві" ∷
-    says (ukCard 0 0 1 "1000") "одної тисячі" ∷
-    says (ukCard 0 0 0 "5000") "пʼять тисяч" ∷
-    says (ukCard 0 0 3 "5000") "пʼять тисячі" ∷
-    says (ukCard 0 0 5 "-2000000") "мінус двох мільйони" ∷
-    says (ukOrd 0 0 0 "21000") "двадцятиоднотисячний" ∷
-    says (ukYear 0 0 1 (negℤ (pos 43))) "сорок третього року до н.е." ∷
-    says (ukMoney 0 0 0 "UAH" "1.02") "одна гривня дві копійки" ∷
-    says (ukMoney 0 0 4 "UAH" "0.11") "одинадцятьма копійками" ∷
-    says (frCard 0 1 0 "71") "soixante-et-onze" ∷
-    says (frCard 1 0 2 "81") "huitante et une" ∷
-    says (frCard 0 0 0 "80000") "quatre-vingt mille" ∷
-    says (frOrd 0 0 0 "200") "deux centsième" ∷
-    refuses (ukCard 0 0 0 "007") 3 ∷
-    refuses (ukCard 0 0 0 "-0") 3 ∷
-    refuses (ukMoney 0 0 0 "UAH" "1.00") 3 ∷
-    refuses (ukMoney 0 0 0 "UAH" "-0.50") 4 ∷
-    refuses (ukCard 0 0 0 "1000000000000000000000000000000000000000000000000000000000000000000") 5 ∷
-    passes (ukCard 0 0 0 "999999999999999999999999999999999999999999999999999999999999999999") ∷
+    spells (ukCard (inGender feminine usual) "42") "сорок дві" ∷
+    spells (ukCard (inCase genitive usual) "1000") "одної тисячі" ∷
+    spells (ukCard usual "5000") "пʼять тисяч" ∷
+    spells (ukCard (inCase accusative usual) "5000") "пʼять тисячі" ∷
+    spells (ukCard (inCase locative usual) "-2000000") "мінус двох мільйони" ∷
+    spells (ukOrd usual "21000") "двадцятиоднотисячний" ∷
+    spells (ukToYear (inCase genitive usual) (negℤ (pos 43))) "сорок третього року до н.е." ∷
+    spells (ukMoney usual "UAH" "1.02") "одна гривня дві копійки" ∷
+    spells (ukMoney (inCase instrumental usual) "UAH" "0.11") "одинадцятьма копійками" ∷
+    spells (frCard (frenchSettings masculine newSpelling regionFR) "71") "soixante-et-onze" ∷
+    spells (frCard (frenchSettings feminine oldSpelling regionCH) "81") "huitante et une" ∷
+    spells (frCard usualFrench "80000") "quatre-vingt mille" ∷
+    spells (frOrd usualFrench "200") "deux centsième" ∷
+    refuses (ukCard usual "007") malformed ∷
+    refuses (ukCard usual "-0") malformed ∷
+    refuses (ukMoney usual "UAH" "1.00") malformed ∷
+    refuses (ukMoney usual "UAH" "-0.50") wrongSign ∷
+    refuses (ukCard usual "1000000000000000000000000000000000000000000000000000000000000000000") tooLarge ∷
+    passes (ukCard usual "999999999999999999999999999999999999999999999999999999999999999999") ∷
     unread "два тисячі" ∷
-    never (ukCard 0 0 3 "5000") "пʼять тисяч" ∷
-    never (ukOrd 0 0 0 "200") "двохсотий" ∷
-    never (frCard 0 0 0 "1000") "un mille" ∷
-    never (ukCard 0 0 0 "5") "п'ять" ∷ []
+    never (ukCard (inCase accusative usual) "5000") "пʼять тисяч" ∷
+    never (ukOrd usual "200") "двохсотий" ∷
+    never (frCard usualFrench "1000") "un mille" ∷
+    never (ukCard usual "5") "п'ять" ∷ []

@@ -6,7 +6,7 @@ use mathlib.Core.List.{List, [], _∷_}
 use lib.Dec.{ltb}
 use Rattle.settings.specs.declared.Settings.{Settings}
 
--- 01's numbers of genders ("French: feminine 0 or 1"), of grammatical numbers, and of two cases
+-- 01's numbers of genders ("French: feminine 0 or 1"), of grammatical numbers, of cases "in `Declension`'s order", of spellings and of regions
 abbrev pub masculine : ℕ
 masculine = 0
 
@@ -24,6 +24,27 @@ nominative = 0
 
 abbrev pub genitive : ℕ
 genitive = 1
+
+abbrev pub accusative : ℕ
+accusative = 3
+
+abbrev pub instrumental : ℕ
+instrumental = 4
+
+abbrev pub locative : ℕ
+locative = 5
+
+abbrev pub oldSpelling : ℕ
+oldSpelling = 0
+
+abbrev pub newSpelling : ℕ
+newSpelling = 1
+
+abbrev pub regionFR : ℕ
+regionFR = 0
+
+abbrev pub regionCH : ℕ
+regionCH = 2
 
 -- the settings of a Ukrainian call's numbers; what a language does not have is 0
 abbrev pub ukrainianSettings : ℕ → ℕ → ℕ → Settings
@@ -51,7 +72,7 @@ abbrev pub Within : List (ℕ × ℕ) → Type 0
 Within [] = Unit {0}
 Within (r ∷ rs) = (r .0 < r .1) × Within rs
 
--- the settings S in another gender: money speaks its counts so, and a year its ordinal
+-- the settings S in another gender: so units at an order are spoken, the counts of money, and a year's ordinal
 abbrev pub inGender : ℕ → Settings → Settings
 inGender gender S = record { gender = gender; number = S .number; case = S .case; reformed = S .reformed; region = S .region }
 

@@ -8,7 +8,8 @@ use native.Mathlib.Omega.{arith}
 use borrow.Author.Tests.{not-true}
 use lib.ListN.{length}
 use Rattle.tables.proofs.Tests.{clash-of, both-hold}
-use Rattle.base.specs.Join.{Word, spaced, joined}
+use Rattle.base.specs.Join.{Word, spacedBy, joined}
+use Rattle.base.specs.Signs.{space}
 use Rattle.tokens.specs.Tokens.{isGap, firstWord, afterWord, split}
 use Rattle.base.specs.Divide.{toFirst}
 
@@ -62,4 +63,4 @@ pub split-joined : (ws : List Word) → Separable ws → split (joined ws) ≡ w
 unfolding split
 split-joined [] s = refl
 split-joined (w ∷ []) s = ap split (append-nil w) ∙ split-last w (s .0)
-split-joined (w ∷ v ∷ ws) s = split-more w 32 (v ++ spaced ws) (s .0) refl ∙ ap (λ (l : List Word). w ∷ l) (split-joined (v ∷ ws) (s .1))
+split-joined (w ∷ v ∷ ws) s = split-more w 32 (v ++ spacedBy space ws) (s .0) refl ∙ ap (λ (l : List Word). w ∷ l) (split-joined (v ∷ ws) (s .1))

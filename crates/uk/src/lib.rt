@@ -17,7 +17,7 @@ ghost use Rattle.base.specs.Answer.{fitted, Answers};
 ghost use Rattle.base.specs.Decides.{Decides};
 ghost use Rattle.base.specs.Utf8.{utf8, form1, form2};
 ghost use Rattle.words.specs.Part.{part};
-ghost use Rattle.plan.specs.Phrase.{phrase};
+ghost use Rattle.plan.specs.Phrase.{phraseOf};
 ghost use Rattle.plan.specs.Plan.{pieces, says};
 ghost use Rattle.uk.specs.Pool.{ukPool};
 ghost use Rattle.uk.specs.UkTables.{zeros, teensBases, teensFlexions, tens, hundreds, megaBases};
@@ -42,7 +42,7 @@ fn texts() -> [u8; pool::SIZE]
 // Answers with what the first n pieces of a plan say.
 pub fn speak(plan: &[u32], n: usize, out: &mut [u8]) -> Answer
     requires { ⌜ (n ≤ length (now plan)) × (n ≤ 1000) ⌝ }
-    ensures { λ r. ⌜ Answers r (now (out .entry)) (now (out .exit)) (fitted (now (out .entry)) (phrase (says ukPool (now (plan .entry)) n))) ⌝ }
+    ensures { λ r. ⌜ Answers r (now (out .entry)) (now (out .exit)) (fitted (now (out .entry)) (phraseOf (says ukPool (now (plan .entry)) n))) ⌝ }
     ensures { λ r. ⌜ r .length ≤ 40 * n ⌝ }
 {
     let lent = texts();
@@ -51,7 +51,7 @@ pub fn speak(plan: &[u32], n: usize, out: &mut [u8]) -> Answer
 
 // Whether s is the phrase of a plan.
 pub fn stands(plan: &[u32], s: &[u8]) -> bool
-    ensures { λ r. ⌜ Decides r (phrase (pieces ukPool (now (plan .entry))) ≡ now (s .entry)) ⌝ }
+    ensures { λ r. ⌜ Decides r (phraseOf (pieces ukPool (now (plan .entry))) ≡ now (s .entry)) ⌝ }
 {
     let lent = texts();
     plan::stands(&lent, plan, s)

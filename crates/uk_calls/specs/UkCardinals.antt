@@ -7,16 +7,16 @@ use Rattle.settings.specs.Settings.{ukrainianRanges}
 use Rattle.settings.specs.Refused.{outOfRange}
 use Rattle.settings.specs.declared.Settings.{Settings}
 use Rattle.figures.specs.Text.{value, negative, unsigned}
-use Rattle.figures.specs.Refusals.{cardinalRefusals}
+use Rattle.figures.specs.Refusals.{ukrainianDigitLimit, cardinalRefusals}
 use Rattle.figures.specs.Value.{NumberMeans}
 use Rattle.cardinals.specs.Cardinal.{cardinalPhrase}
 use Rattle.cardinals.specs.Grammar.{Says}
 use Rattle.uk.specs.Ukrainian.{ukrainian}
 
--- the cardinal of a number text, "at most 66 digits"
+-- the cardinal of a number text
 abbrev pub ukToCardinal : Settings → List ℕ → Spelling
 ukToCardinal S t = record {
-  refusal = firstOf (outOfRange (ukrainianRanges S) ∷ cardinalRefusals 66 t);
+  refusal = firstOf (outOfRange (ukrainianRanges S) ∷ cardinalRefusals ukrainianDigitLimit t);
   phrase = cardinalPhrase (ukrainian S) (negative t) (value (unsigned t));
 }
 

@@ -1,4 +1,4 @@
--- The endings of the currency nouns, as uk.rs has them: by grammatical number, then case.
+-- The endings of the currency nouns (01, "Ukrainian money"), as uk.rs has them: by grammatical number, then case.
 -- Assumes nothing.
 use Prim.Native.String.{String}
 use mathlib.Core.List.{List, [], _∷_}

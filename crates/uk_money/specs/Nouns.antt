@@ -33,33 +33,33 @@ endings undeclined = []
 endings hryvnia = hryvnias
 endings kopiyka = kopiykas
 
--- a word of a name: its stem, and the class of its endings
-pub record Noun : Type 0 where
+-- a noun or an adjective: its stem, and the class of its endings
+pub record Declined : Type 0 where
   pub stem : String
   pub class : Class
 
--- a word from its stem and its class
-abbrev pub noun : String → Class → Noun
-noun stem class = record { stem = stem; class = class }
+-- one from its stem and its class
+abbrev pub declined : String → Class → Declined
+declined stem class = record { stem = stem; class = class }
 
 -- the form of a word in a grammatical number and case
-unfoldable pub formOf : Settings → Noun → Word
+unfoldable pub formOf : Settings → Declined → Word
 formOf S n = utf8 (n .stem) ++ form2 (endings (n .class)) (S .number) (S .case)
 
 -- the name of a unit: its gender, and its words, a noun or an adjective and a noun
 pub record Name : Type 0 where
   pub gender : ℕ
-  pub words : List Noun
+  pub words : List Declined
 
 -- a masculine noun as a name; a feminine one; a masculine adjective and noun
 abbrev pub masculineName : String → Class → Name
-masculineName stem class = record { gender = masculine; words = noun stem class ∷ [] }
+masculineName stem class = record { gender = masculine; words = declined stem class ∷ [] }
 
 abbrev pub feminineName : String → Class → Name
-feminineName stem class = record { gender = feminine; words = noun stem class ∷ [] }
+feminineName stem class = record { gender = feminine; words = declined stem class ∷ [] }
 
 abbrev pub masculinePair : String → Class → String → Class → Name
-masculinePair s c t d = record { gender = masculine; words = noun s c ∷ noun t d ∷ [] }
+masculinePair s c t d = record { gender = masculine; words = declined s c ∷ declined t d ∷ [] }
 
 -- the words of a name in a grammatical number and case
 unfoldable pub nameForms : Settings → Name → List Word

@@ -15,7 +15,7 @@ ghost use Rattle.settings.specs.declared.Settings.{Settings};
 ghost use Rattle.figures.specs.Groups.{total, Groups};
 ghost use Rattle.groups.specs.Highest.{ZeroFrom};
 ghost use Rattle.words.specs.Part.{part};
-ghost use Rattle.plan.specs.Phrase.{phrase};
+ghost use Rattle.plan.specs.Phrase.{phraseOf};
 ghost use Rattle.plan.specs.Plan.{says};
 ghost use Rattle.plan.specs.Speaks.{Told};
 ghost use Rattle.uk.specs.Pool.{ukPool};
@@ -128,7 +128,7 @@ pub fn plan_money(
 ) -> usize
     requires { ⌜ Within (ukrainianRanges settings) × (currency < 44) × (n ≤ 7) × ZeroFrom (now gs) n × (hundredths < 100) × (50 ≤ length (now plan)) ⌝ }
     requires { ⌜ Groups (now gs) × (length (now gs) ≡ 22) × (zero ≡ eqb (total (now gs)) 0) ⌝ }
-    ensures { λ r. ⌜ (r ≤ 50) × (phrase (says ukPool (now (plan .exit)) r) ≡ amountPhrase settings (currencyAt currency) (total (now (gs .entry))) hundredths) ⌝ }
+    ensures { λ r. ⌜ (r ≤ 50) × (phraseOf (says ukPool (now (plan .exit)) r) ≡ amountPhrase settings (currencyAt currency) (total (now (gs .entry))) hundredths) ⌝ }
 {
     let code = settings::packed(settings);
     if hundredths == 0 {

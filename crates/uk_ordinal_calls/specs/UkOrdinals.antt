@@ -8,17 +8,17 @@ use Rattle.base.specs.Join.{joined}
 use Rattle.settings.specs.Settings.{ukrainianRanges}
 use Rattle.settings.specs.Refused.{outOfRange}
 use Rattle.settings.specs.declared.Settings.{Settings}
-use Rattle.figures.specs.Text.{value}
-use Rattle.figures.specs.Refusals.{ordinalRefusals, digitOrdinalRefusals}
+use Rattle.figures.specs.Text.{value, unsigned}
+use Rattle.figures.specs.Refusals.{ukrainianDigitLimit, ordinalRefusals, digitOrdinalRefusals}
 use Rattle.uk_ordinal.specs.Ordinal.{ordinalWords}
 use Rattle.uk_ordinal.specs.DigitOrdinal.{digitOrdinal}
 use Rattle.uk_ordinal.specs.Year.{yearWords}
 
--- the ordinal of a number text, "at most 66 digits"
+-- the ordinal of a number text
 abbrev pub ukToOrdinal : Settings → List ℕ → Spelling
 ukToOrdinal S t = record {
-  refusal = firstOf (outOfRange (ukrainianRanges S) ∷ ordinalRefusals 66 t);
-  phrase = joined (ordinalWords S (value t));
+  refusal = firstOf (outOfRange (ukrainianRanges S) ∷ ordinalRefusals ukrainianDigitLimit t);
+  phrase = joined (ordinalWords S (value (unsigned t)));
 }
 
 -- its digit ordinal

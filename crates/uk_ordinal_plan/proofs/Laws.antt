@@ -4,8 +4,9 @@ use Prim.Native.Nat.{ℕ, zero, suc, _+_, _≤_}
 use mathlib.Core.Path.{_≡_, refl, sym, ap, _∙_}
 use mathlib.Core.List.{List, [], _∷_, _++_, append-nil, append-assoc, flatten}
 use native.Mathlib.Omega.{arith}
-use Rattle.base.specs.Join.{Word, spaced, joined}
-use Rattle.plan.specs.Phrase.{Piece, gap, following, phrase}
+use Rattle.base.specs.Join.{Word, spacedBy, joined}
+use Rattle.base.specs.Signs.{space}
+use Rattle.plan.specs.Phrase.{Piece, gap, following, phraseOf}
 use Rattle.plan.specs.Plan.{Added, says, pieces}
 use Rattle.plan.specs.Speaks.{Speaks, none, whole, ended, Told}
 use Rattle.plan.proofs.Added.{stay, then, same}
@@ -101,24 +102,24 @@ pub told : {pool : List ℕ} {k n r : ℕ} {xs ys : List ℕ} {ws : List Word} �
 told t = record { said = record { pieces = t .pieces; added = t .added; led = begins (t .speaks); bytes = follows (t .speaks) } }
 
 -- words one after the other
-spaced-both : (us vs : List Word) → spaced (us ++ vs) ≡ spaced us ++ spaced vs
+spaced-both : (us vs : List Word) → spacedBy space (us ++ vs) ≡ spacedBy space us ++ spacedBy space vs
 spaced-both [] vs = refl
-spaced-both (u ∷ us) vs = rw (spaced-both us vs) (ap (λ (l : List ℕ). 32 ∷ l) (sym (append-assoc u (spaced us) (spaced vs))))
+spaced-both (u ∷ us) vs = rw (spaced-both us vs) (ap (λ (l : List ℕ). 32 ∷ l) (sym (append-assoc u (spacedBy space us) (spacedBy space vs))))
 
 pub speak : {pool : List ℕ} {j k n m r : ℕ} {xs ys zs : List ℕ} {us vs : List Word} (i : ℕ) → Spoken pool j xs n ys m us → Spoken pool k ys m zs r vs → j + k ≤ i → Spoken pool i xs n zs r (us ++ vs)
 speak {us = us} {vs = vs} i p q h = record { said = resay i (both i (p .said) (q .said) h) (omega arith) (sym (spaced-both us vs)) }
 
 pub respeak : {pool : List ℕ} {k n r : ℕ} {xs ys : List ℕ} {us ws : List Word} (i : ℕ) → Spoken pool k xs n ys r us → k ≤ i → us ≡ ws → Spoken pool i xs n ys r ws
-respeak i a h e = record { said = resay i (a .said) h (ap spaced e) }
+respeak i a h e = record { said = resay i (a .said) h (ap (spacedBy space) e) }
 
 -- a plan from its beginning: words
-joins : {ps : List Piece} (ws : List Word) → LedBy 32 ps → following ps ≡ spaced ws → phrase ps ≡ joined ws
-unfolding phrase following
+joins : {ps : List Piece} (ws : List Word) → LedBy 32 ps → following ps ≡ spacedBy space ws → phraseOf ps ≡ joined ws
+unfolding phraseOf following
 joins [] nothing e = refl
 joins (w ∷ ws) nothing e = let z : _≡_ {A = ℕ} 0 1 = cc in absurd (omega arith)
 joins [] (piece v ps) e = let z : _≡_ {A = ℕ} 0 1 = cc in absurd (omega arith)
 joins (w ∷ ws) (piece v ps) e = cc
 
-pub spoken-phrase : {pool : List ℕ} {k r : ℕ} {xs ys : List ℕ} {ws : List Word} → Spoken pool k xs 0 ys r ws → phrase (says pool ys r) ≡ joined ws
+pub spoken-phrase : {pool : List ℕ} {k r : ℕ} {xs ys : List ℕ} {ws : List Word} → Spoken pool k xs 0 ys r ws → phraseOf (says pool ys r) ≡ joined ws
 unfolding says pieces
-spoken-phrase {ws = ws} a = ap phrase (a .said .added .more) ∙ joins ws (a .said .led) (a .said .bytes)
+spoken-phrase {ws = ws} a = ap phraseOf (a .said .added .more) ∙ joins ws (a .said .led) (a .said .bytes)

@@ -3,7 +3,7 @@
 use Prim.Native.Nat.{ℕ}
 use mathlib.Core.Path.{_≡_}
 use mathlib.Core.List.{List, [], _∷_, _++_, flatten}
-use Rattle.base.specs.Join.{Word, spaced}
+use Rattle.base.specs.Join.{Word, spacedBy}
 use Rattle.base.specs.Signs.{space}
 use Rattle.plan.specs.Phrase.{Piece, gap, following}
 use Rattle.plan.specs.Plan.{Added}
@@ -31,4 +31,4 @@ pub record Ran (pool : List ℕ) (s k : ℕ) (xs : List ℕ) (n : ℕ) (ys : Lis
 
 -- `Said` of the words ws, each after a space
 pub record Spoken (pool : List ℕ) (k : ℕ) (xs : List ℕ) (n : ℕ) (ys : List ℕ) (r : ℕ) (ws : List Word) : Type 0 where
-  pub said : Said pool space k xs n ys r (spaced ws)
+  pub said : Said pool space k xs n ys r (spacedBy space ws)

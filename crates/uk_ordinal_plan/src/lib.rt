@@ -20,7 +20,7 @@ ghost use Rattle.figures.specs.Groups.{total};
 ghost use Rattle.groups.specs.Highest.{ZeroFrom, Highest};
 ghost use Rattle.words.specs.Part.{part};
 ghost use Rattle.uk.specs.Pool.{ukPool};
-ghost use Rattle.plan.specs.Phrase.{phrase};
+ghost use Rattle.plan.specs.Phrase.{phraseOf};
 ghost use Rattle.plan.specs.Plan.{says};
 ghost use Rattle.plan.specs.Speaks.{Told};
 ghost use Rattle.uk.specs.Ukrainian.{ukrainian};
@@ -114,7 +114,7 @@ fn say_ordinal(
     lowest_words(settings, order, g, lone, ending, plan, k)
 }
 
-// The same under the settings that a number holds.
+// The same for its two callers: it is not inlined, so the settings go as one number.
 fn ordinal_under(code: u64, n: usize, gs: &[u16; ORDERS], plan: &mut [u32], at: usize) -> usize
     requires { ⌜ Within (ukrainianRanges (settingsIn code)) × Groups22 (now gs) × Highest (now gs) n × (at + 116 ≤ length (now plan)) ⌝ }
     ensures { λ r. ⌜ Spoken ukPool 116 (now (plan .entry)) at (now (plan .exit)) r (ordinalWords (settingsIn code) (total (now (gs .entry)))) ⌝ }
@@ -137,7 +137,7 @@ fn say_era(early: bool, plan: &mut [u32], at: usize) -> usize
 // The plan of an ordinal under these settings: it says the ordinal's words, joined.
 pub fn plan_ordinal(settings: Settings, n: usize, gs: &[u16; ORDERS], plan: &mut [u32]) -> usize
     requires { ⌜ Within (ukrainianRanges settings) × Groups22 (now gs) × Highest (now gs) n × (116 ≤ length (now plan)) ⌝ }
-    ensures { λ r. ⌜ (r ≤ 116) × (phrase (says ukPool (now (plan .exit)) r) ≡ joined (ordinalWords settings (total (now (gs .entry))))) ⌝ }
+    ensures { λ r. ⌜ (r ≤ 116) × (phraseOf (says ukPool (now (plan .exit)) r) ≡ joined (ordinalWords settings (total (now (gs .entry))))) ⌝ }
 {
     ordinal_under(settings::packed(settings), n, gs, plan, 0)
 }
@@ -151,7 +151,7 @@ pub fn plan_year(
     plan: &mut [u32],
 ) -> usize
     requires { ⌜ Within (ukrainianRanges settings) × Groups22 (now gs) × Highest (now gs) n × (119 ≤ length (now plan)) ⌝ }
-    ensures { λ r. ⌜ (r ≤ 119) × (phrase (says ukPool (now (plan .exit)) r) ≡ joined (ordinalWords (inGender masculine settings) (total (now (gs .entry))) ++ (yearNoun settings ∷ eraWords early))) ⌝ }
+    ensures { λ r. ⌜ (r ≤ 119) × (phraseOf (says ukPool (now (plan .exit)) r) ≡ joined (ordinalWords (inGender masculine settings) (total (now (gs .entry))) ++ (yearNoun settings ∷ eraWords early))) ⌝ }
 {
     let code = settings::packed(settings::in_gender(MASCULINE, settings));
     let a = ordinal_under(code, n, gs, plan, 0);

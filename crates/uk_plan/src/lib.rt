@@ -10,7 +10,7 @@ ghost use Rattle.settings.specs.Settings.{ukrainianRanges, Within};
 ghost use Rattle.settings.specs.Packed.{settingsIn};
 ghost use Rattle.figures.specs.Groups.{total, Groups};
 ghost use Rattle.groups.specs.Highest.{ZeroFrom};
-ghost use Rattle.plan.specs.Phrase.{phrase};
+ghost use Rattle.plan.specs.Phrase.{phraseOf};
 ghost use Rattle.plan.specs.Plan.{says};
 ghost use Rattle.plan.specs.Speaks.{Told};
 ghost use Rattle.uk.specs.Pool.{ukPool};
@@ -101,7 +101,7 @@ fn group(settings: Settings, order: usize, g: u16, plan: &mut [u32], at: usize) 
     noun_word(settings, order, t, u, plan, b)
 }
 
-// The groups below order n, from the highest down: each call has one order fewer, and the settings as one number.
+// The groups below order n, from the highest down: each call has one order fewer. The settings go as one number: a record would be copied for each.
 fn groups(code: u64, n: usize, gs: &[u16; ORDERS], plan: &mut [u32], at: usize) -> usize
     requires { ⌜ Within (ukrainianRanges (settingsIn code)) × (n ≤ 22) × (at + 5 * n ≤ length (now plan)) ⌝ }
     ensures { λ r. ⌜ Told ukPool (5 * n) (now (plan .entry)) at (now (plan .exit)) r (listed (ukrainian (settingsIn code)) n (now (gs .entry))) ⌝ }
@@ -171,7 +171,7 @@ pub fn plan_cardinal(
 ) -> usize
     requires { ⌜ Within (ukrainianRanges settings) × (n ≤ 22) × ZeroFrom (now gs) n × (111 ≤ length (now plan)) ⌝ }
     requires { ⌜ Groups (now gs) × (length (now gs) ≡ 22) × (zero ≡ eqb (total (now gs)) 0) ⌝ }
-    ensures { λ r. ⌜ (r ≤ 111) × (phrase (says ukPool (now (plan .exit)) r) ≡ cardinalPhrase (ukrainian settings) negative (total (now (gs .entry)))) ⌝ }
+    ensures { λ r. ⌜ (r ≤ 111) × (phraseOf (says ukPool (now (plan .exit)) r) ≡ cardinalPhrase (ukrainian settings) negative (total (now (gs .entry)))) ⌝ }
 {
     say_cardinal(settings, zero, negative, n, gs, plan, 0)
 }

@@ -11,7 +11,7 @@ use lib.ListN.{take}
 use Rattle.base.specs.Decides.{Decides}
 use Rattle.settings.specs.Settings.{ukrainianRanges, Within}
 use Rattle.settings.specs.declared.Settings.{Settings}
-use Rattle.plan.specs.Phrase.{phrase}
+use Rattle.plan.specs.Phrase.{phraseOf}
 use Rattle.plan.specs.Plan.{pieces, says}
 use Rattle.tokens.specs.Tokens.{split}
 use Rattle.tokens.proofs.Words.{split-joined}
@@ -55,6 +55,6 @@ sign-is true r e = lt-ltb 0 r (omega (arith, eqb-false r 0 e))
 sign-is false r e = le-ltb 0 r (omega (arith, eqb-true r 0 e))
 
 -- a plan that says these words stands where they are the text
-pub words-stand : (b : Bool) (s pool plan said : List ℕ) (n : ℕ) → phrase (says pool plan n) ≡ said → Decides b (phrase (pieces pool (take n plan)) ≡ s) → Decides b (said ≡ s)
+pub words-stand : (b : Bool) (s pool plan said : List ℕ) (n : ℕ) → phraseOf (says pool plan n) ≡ said → Decides b (phraseOf (pieces pool (take n plan)) ≡ s) → Decides b (said ≡ s)
 unfolding says
 words-stand b s pool plan said n e d = record { holds = λ t. sym e ∙ d .holds t; fails = λ t f. d .fails t (e ∙ f) }

@@ -7,7 +7,7 @@ use mathlib.Core.Option.{some}
 use Rattle.base.specs.Claim.{Readable}
 use Rattle.settings.specs.Settings.{ukrainianRanges, frenchRanges, Within}
 use Rattle.settings.specs.declared.Settings.{Settings}
-use Rattle.figures.specs.Refusals.{cardinalRefusals, ordinalRefusals, amountRefusals, Admitted}
+use Rattle.figures.specs.Refusals.{ukrainianDigitLimit, frenchDigitLimit, cardinalRefusals, ordinalRefusals, amountRefusals, Admitted}
 use Rattle.uk_calls.specs.UkCardinals.{ukToCardinal, UkCardinalMeans}
 use Rattle.uk_calls.proofs.Theorem as uk-cardinals
 use Rattle.uk_money.specs.Currencies.{Currency}
@@ -19,7 +19,7 @@ use Rattle.fr_calls.proofs.Theorems as fr-theorems
 
 -- Ukrainian cardinals
 pub ukrainian-cardinals : (S : Settings) → Within (ukrainianRanges S)
-    → Readable (λ t. Admitted (cardinalRefusals 66 t)) (λ t. ukToCardinal S t .phrase) (UkCardinalMeans S)
+    → Readable (λ t. Admitted (cardinalRefusals ukrainianDigitLimit t)) (λ t. ukToCardinal S t .phrase) (UkCardinalMeans S)
 ukrainian-cardinals = uk-cardinals.readable
 
 -- Ukrainian money, in the currency of every code
@@ -29,10 +29,10 @@ ukrainian-money = uk-money.readable
 
 -- French cardinals
 pub french-cardinals : (S : Settings) → Within (frenchRanges S)
-    → Readable (λ t. Admitted (cardinalRefusals 102 t)) (λ t. frToCardinal S t .phrase) (FrCardinalMeans S)
+    → Readable (λ t. Admitted (cardinalRefusals frenchDigitLimit t)) (λ t. frToCardinal S t .phrase) (FrCardinalMeans S)
 french-cardinals = fr-theorems.cardinals
 
 -- French ordinals
 pub french-ordinals : (S : Settings) → Within (frenchRanges S)
-    → Readable (λ t. Admitted (ordinalRefusals 102 t)) (λ t. frToOrdinal S t .phrase) (FrOrdinalMeans S)
+    → Readable (λ t. Admitted (ordinalRefusals frenchDigitLimit t)) (λ t. frToOrdinal S t .phrase) (FrOrdinalMeans S)
 french-ordinals = fr-theorems.ordinals

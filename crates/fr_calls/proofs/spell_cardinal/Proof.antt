@@ -9,7 +9,7 @@ use Rattle.figures.specs.Groups.{total}
 use Rattle.figures.proofs.Laws.Plain.{plain-digits}
 use Rattle.figures.proofs.Laws.Sign.{formed-unsigned}
 use Rattle.groups.proofs.Held.{Held, held}
-use Rattle.plan.specs.Phrase.{phrase}
+use Rattle.plan.specs.Phrase.{phraseOf}
 use Rattle.plan.specs.Plan.{says}
 use Rattle.fr.specs.Pool.{frPool}
 use Rattle.base.proofs.Replies.{heard}
@@ -27,7 +27,7 @@ grouped c =
 number-is : (c : tie.After-count) → total (c .before .groups34 .result) ≡ value (unsigned (c .before .before .before .before .before .before .before .args .text .now))
 number-is c = grouped c .number ∙ ap value (c .before .before .after-sign .ensures)
 
-phrase-is : (c : tie.After-plan-cardinal) → let a = c .before .before .before .before .before .before .before .before .before .before .args in phrase (says frPool (c .plan-cardinal .last .1 .1 .1 .1 .1 .0) (c .plan-cardinal .result)) ≡ frToCardinal (a .settings) (a .text .now) .phrase
+phrase-is : (c : tie.After-plan-cardinal) → let a = c .before .before .before .before .before .before .before .before .before .before .args in phraseOf (says frPool (c .plan-cardinal .last .1 .1 .1 .1 .1 .0) (c .plan-cardinal .result)) ≡ frToCardinal (a .settings) (a .text .now) .phrase
 phrase-is c = c .plan-cardinal .ensures .1 ∙ rw (c .before .before .before .before .before .before .is-negative .ensures, number-is (c .before .before .before)) refl
 
 plan-cardinal-requires : tie.Need-plan-cardinal-requires

@@ -8,7 +8,7 @@ use Rattle.figures.specs.Text.{plain, value, unsigned}
 use Rattle.figures.proofs.Laws.Plain.{plain-digits}
 use Rattle.figures.proofs.Laws.Sign.{formed-unsigned}
 use Rattle.groups.proofs.Held.{Held, held}
-use Rattle.plan.specs.Phrase.{phrase}
+use Rattle.plan.specs.Phrase.{phraseOf}
 use Rattle.plan.specs.Plan.{says}
 use Rattle.fr.specs.Pool.{frPool}
 use Rattle.fr.specs.Ordinal.{nthPhrase}
@@ -24,7 +24,7 @@ grouped c =
     let d = c .before .before .after-sign .ensures in
     held 34 _ _ _ (ap plain d ∙ formed-unsigned (s .args .text .now) (s .pre .1)) (omega (arith, ap length d, s .pre .2)) (c .before .groups34 .ensures) (c .count .ensures)
 
-phrase-is : (c : tie.After-plan-ordinal) → let a = c .before .before .before .before .before .before .before .before .before .before .args in phrase (says frPool (c .plan-ordinal .last .1 .1 .1 .1 .0) (c .plan-ordinal .result)) ≡ frToOrdinal (a .settings) (a .text .now) .phrase
+phrase-is : (c : tie.After-plan-ordinal) → let a = c .before .before .before .before .before .before .before .before .before .before .args in phraseOf (says frPool (c .plan-ordinal .last .1 .1 .1 .1 .0) (c .plan-ordinal .result)) ≡ frToOrdinal (a .settings) (a .text .now) .phrase
 phrase-is c =
     let s = c .before .before .before .before .before .before .before .before .before .before in
     c .plan-ordinal .ensures .1 ∙ ap (nthPhrase (s .args .settings)) (grouped (c .before .before .before .before) .number ∙ ap value (c .before .before .before .before .before .before .after-sign .ensures))

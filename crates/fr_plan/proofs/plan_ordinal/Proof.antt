@@ -34,7 +34,7 @@ returns c =
 plan-words-requires : tie.Need-plan-words-requires
 plan-words-requires c κs =
     let p = c .before .before .before .before .before .before .before .pre in
-    ((p .1, p .3 .zeros, omega (arith, p .2 .0, p .3 .within), omega (arith, p .4)), (p .2, c .before .is2 .ensures))
+    ((p .1, p .3 .zeros, omega (arith, p .2 .0, p .3 .fits), omega (arith, p .4)), (p .2, c .before .is2 .ensures))
 
 -- the cardinal's plan has a last word
 some : (c : tie.After-plan-words) → 0 < c .plan-words .result

@@ -39,6 +39,6 @@ read-cardinal-spec =
     (λ c κs.
     let t = c .before .top .ensures in
     let g = c .before .before .before .before in
-    ((c .before .before .before .before .before .before .before .before .before .pre .0, t .0 .zeros, omega (arith, t .0 .within, size g)), (are-groups _ _ (groups g), top-zero _ _ (t .0) (t .1))))
+    ((c .before .before .before .before .before .before .before .before .before .pre .0, t .0 .zeros, omega (arith, t .0 .fits, size g)), (are-groups _ _ (groups g), top-zero _ _ (t .0) (t .1))))
     (λ c κs. search needs)
     returns)

@@ -5,7 +5,7 @@ use mathlib.Core.Path.{_≡_, refl, _∙_}
 use mathlib.Core.Bool.{true}
 use native.Mathlib.Omega.{arith}
 use lib.ListN.{length, take, length-take, length-drop}
-use Rattle.phrases_lines.specs.Program.{isLine}
+use Rattle.phrases_lines.specs.Held.{isLine}
 use Rattle.phrases_blocks.proofs.pass.Statement.{statement}
 use Rattle.phrases_blocks.proofs.pass.Tie as tie
 

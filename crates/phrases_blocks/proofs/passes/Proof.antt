@@ -5,7 +5,7 @@ use mathlib.Core.Path.{_≡_, refl, sym, _∙_}
 use mathlib.Core.Bool.{true}
 use native.Mathlib.Omega.{arith}
 use lib.ListN.{length, take}
-use Rattle.phrases_lines.specs.Program.{isLine}
+use Rattle.phrases_lines.specs.Held.{isLine}
 use Rattle.phrases_blocks.proofs.passes.Statement.{statement}
 use Rattle.phrases_blocks.proofs.passes.Tie as tie
 

@@ -5,7 +5,8 @@ use mathlib.Core.Path.{_≡_, refl, _∙_}
 use mathlib.Core.Bool.{true}
 use native.Mathlib.Omega.{arith}
 use lib.ListN.{length, take}
-use Rattle.phrases_lines.specs.Program.{isLine, Answered}
+use Rattle.phrases_lines.specs.Program.{Answered}
+use Rattle.phrases_lines.specs.Held.{isLine}
 use Rattle.phrases_lines.proofs.Laws.{one-more}
 use Rattle.phrases_lines.proofs.feed.Statement.{statement}
 use Rattle.phrases_lines.proofs.feed.Tie as tie

@@ -7,9 +7,9 @@ use lib.ListN.{length, take, length-take}
 use lib.Seq.{length-take-le}
 use borrow.Author.Needs.{needs}
 use Rattle.phrases_answers.specs.Answers.{answerLine}
-use Rattle.phrases_lines.specs.Program.{isLine}
+use Rattle.phrases_lines.specs.Held.{isLine}
 use Rattle.phrases_lines.proofs.Lines.{line-on}
-use Rattle.phrases_lines.proofs.Laws.{kept-before, told-behind, ended, joined, too-much, nothing, pushed}
+use Rattle.phrases_lines.proofs.Laws.{kept-before, told-behind, ended, lengthened, too-much, nothing, pushed}
 use Rattle.phrases_lines.proofs.take_byte.Statement.{statement}
 use Rattle.phrases_lines.proofs.take_byte.Tie as tie
 
@@ -41,7 +41,7 @@ returns-2 c =
       (omega arith, omega arith, omega arith),
       (
         rw q (line-on p (a .b) (s .pre .2) (c .before .if1 .left)),
-        (refl, joined p (a .b) (s .pre .2) _ _ (nothing (a .out .now) (a .used) (omega arith)) q),
+        (refl, lengthened p (a .b) (s .pre .2) _ _ (nothing (a .out .now) (a .used) (omega arith)) q),
       ),
     )
 

@@ -4,7 +4,7 @@ use native.Mathlib.Omega.{arith}
 use mathlib.Core.Path.{sym}
 use borrow.Author.Needs.{needs}
 use lib.Seq.{length-take-le}
-use Rattle.plan.specs.Phrase.{phrase}
+use Rattle.plan.specs.Phrase.{phraseOf}
 use Rattle.plan.specs.Plan.{says}
 use Rattle.plan.proofs.Short.{says-short}
 use Rattle.plan.proofs.Spoken.{written}
@@ -25,7 +25,7 @@ returns-2 c =
     let p = c .before .before .put in
     let short = says-short (a .pool .now) (a .plan .now) (a .n) (s .pre .0) in
     let left = c .before .before .before .before .before .if1 .left in
-    (written (a .out .now) (phrase (says (a .pool .now) (a .plan .now) (a .n))) (p .result) (p .ensures .0) _ (omega (arith, p .ensures .0)) (p .ensures .1), omega (arith, p .ensures .0))
+    (written (a .out .now) (phraseOf (says (a .pool .now) (a .plan .now) (a .n))) (p .result) (p .ensures .0) _ (omega (arith, p .ensures .0)) (p .ensures .1), omega (arith, p .ensures .0))
 
 pub speak-spec : {M : Type 1} → statement M
 speak-spec =

@@ -11,7 +11,7 @@ use Rattle.figures.specs.Groups.{total}
 use Rattle.figures.specs.Text.{digits, plain, value, unsigned}
 use Rattle.figures.proofs.Laws.Plain.{plain-digits}
 use Rattle.figures.proofs.Laws.Sign.{formed-unsigned}
-use Rattle.plan.specs.Phrase.{phrase}
+use Rattle.plan.specs.Phrase.{phraseOf}
 use Rattle.plan.specs.Plan.{says}
 use Rattle.base.proofs.Replies.{heard}
 use Rattle.groups.proofs.Held.{Held, held}
@@ -47,7 +47,7 @@ plan-cardinal-requires c κs =
 
 -- what the plan says
 phrase-is : (c : tie.After-plan-cardinal) → let p = c .plan-cardinal in let a = c .before .before .before .before .before .before .before .before .before .before .args in
-    phrase (says ukPool (p .last .1 .1 .1 .1 .1 .0) (p .result)) ≡ ukToCardinal (a .settings) (a .text .now) .phrase
+    phraseOf (says ukPool (p .last .1 .1 .1 .1 .1 .0) (p .result)) ≡ ukToCardinal (a .settings) (a .text .now) .phrase
 phrase-is c =
     let a = c .before .before .before .before .before .before .before .before .before .before .args in
     c .plan-cardinal .ensures .1 ∙ ap (cardinalPhrase (ukrainian (a .settings)) _) (number-is (c .before))

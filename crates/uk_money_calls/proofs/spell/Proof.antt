@@ -15,7 +15,7 @@ use Rattle.figures.specs.Text.{digits, plain, value, unsigned, wellFormed}
 use Rattle.figures.specs.Money.{wholeText, wholeOf, hundredthsOf}
 use Rattle.figures.proofs.Laws.Plain.{plain-digits}
 use Rattle.groups.proofs.Held.{Held, held}
-use Rattle.plan.specs.Phrase.{phrase}
+use Rattle.plan.specs.Phrase.{phraseOf}
 use Rattle.plan.specs.Plan.{says}
 use Rattle.uk.specs.Pool.{ukPool}
 use Rattle.uk_money.specs.Money.{amountPhrase}
@@ -66,7 +66,7 @@ plan-money-requires c κs =
 
 -- what the plan says
 phrase-is : (c : tie.After-plan-money) → let p = c .plan-money in let a = c .before .before .before .before .before .before .before .before .before .before .before .before .args in
-    phrase (says ukPool (p .last .1 .1 .1 .1 .1 .1 .0) (p .result)) ≡ amountPhrase (a .settings) (currencyAt (a .currency)) (wholeOf (a .text .now)) (hundredthsOf (a .text .now))
+    phraseOf (says ukPool (p .last .1 .1 .1 .1 .1 .1 .0) (p .result)) ≡ amountPhrase (a .settings) (currencyAt (a .currency)) (wholeOf (a .text .now)) (hundredthsOf (a .text .now))
 phrase-is c = rw (number-is (c .before), part-is (c .before .before .before)) at (c .plan-money .ensures .1)
 
 pub spell-spec : {M : Type 1} → statement M

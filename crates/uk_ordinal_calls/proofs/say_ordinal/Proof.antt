@@ -1,13 +1,15 @@
 -- `uk_ordinal_calls::say_ordinal` meets its contract.
 -- Assumes nothing.
 use Prim.Native.Nat.{ℕ}
-use mathlib.Core.Path.{ap, _∙_}
+use mathlib.Core.Path.{sym, ap, _∙_}
 use native.Mathlib.Omega.{arith}
 use borrow.Author.Needs.{needs}
 use denote.Ref.{now}
 use Rattle.base.specs.Join.{joined}
 use Rattle.base.proofs.Replies.{heard}
+use Rattle.figures.specs.Text.{value}
 use Rattle.figures.proofs.Laws.Plain.{plain-digits}
+use Rattle.figures.proofs.Laws.Sign.{unsigned-plain, digits-unsigned}
 use Rattle.groups.proofs.Held.{Held, held}
 use Rattle.uk_ordinal.specs.Ordinal.{ordinalWords}
 use Rattle.uk_ordinal_calls.proofs.Admitted.{groups-22}
@@ -27,9 +29,12 @@ plan-ordinal-requires c κs =
 
 returns : tie.Need-returns
 returns c =
-    let a = c .before .before .before .before .before .before .before .before .before .before .before .before .before .args in
+    let s = c .before .before .before .before .before .before .before .before .before .before .before .before .before in
+    let a = s .args in
+    let t = now (a .text) in
+    let u = sym (ap value (unsigned-plain t (digits-unsigned t (plain-digits t (s .pre .1))))) in
     let p = c .before .before .before .before .before .before .plan-ordinal in
-    (heard _ _ _ (p .ensures .1 ∙ ap (λ (n : ℕ). joined (ordinalWords (a .settings) n)) (grouped (c .before .before .before .before .before .before .before .before .before) .number)) (c .before .before .speak .ensures .0), omega (arith, c .before .before .speak .ensures .1, p .ensures .0))
+    (heard _ _ _ (p .ensures .1 ∙ ap (λ (n : ℕ). joined (ordinalWords (a .settings) n)) (grouped (c .before .before .before .before .before .before .before .before .before) .number ∙ u)) (c .before .before .speak .ensures .0), omega (arith, c .before .before .speak .ensures .1, p .ensures .0))
 
 pub say-ordinal-spec : {M : Type 1} → statement M
 say-ordinal-spec =

@@ -39,7 +39,7 @@ higher-requires c κs =
     let s = c .before .before .before .before .before .before .before .before .before in
     let p = c .before .before .before .before .lowest in
     let h = inside (c .before .before .before) in
-    ((s .pre .0, h, omega (arith, s .pre .1 .count, s .pre .2 .within), s .pre .2 .zeros, omega (arith, s .pre .3)), λ e. above-none (now (s .args .gs)) (s .pre .1) (p .result) (p .ensures) (s .args .n) (s .pre .2) h (eqb-true _ _ e))
+    ((s .pre .0, h, omega (arith, s .pre .1 .count, s .pre .2 .fits), s .pre .2 .zeros, omega (arith, s .pre .3)), λ e. above-none (now (s .args .gs)) (s .pre .1) (p .result) (p .ensures) (s .args .n) (s .pre .2) h (eqb-true _ _ e))
 
 lowest-words-requires : tie.Need-lowest-words-requires
 lowest-words-requires c κs =

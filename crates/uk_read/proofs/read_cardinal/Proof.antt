@@ -65,7 +65,7 @@ plan-cardinal-requires c κs =
     let s = c .before .before .before .before .before .before .before .before .before .before in
     let m = made (c .before .before .before .before .before) in
     let t = c .before .before .top .ensures .0 in
-    ((s .pre .0, omega (arith, t .within, m .size), t .zeros, omega arith), (m .small, m .size, zero-is (c .before .before)))
+    ((s .pre .0, omega (arith, t .fits, m .size), t .zeros, omega arith), (m .small, m .size, zero-is (c .before .before)))
 
 pub read-cardinal-spec : {M : Type 1} → statement M
 read-cardinal-spec =
