@@ -9,7 +9,7 @@ use lib.Dec.{eqb, ltb}
 use lib.ListN.{length, length-append}
 use Rattle.figures.specs.Groups.{Groups}
 use Rattle.fr_plan.specs.Groups34.{Groups34}
-use Rattle.fr_read.specs.Reading.{grow, times, one, Group, guess, seems, reads, guessed}
+use Rattle.fr_read.specs.Reading.{grow, times, atLeastOne, Group, guess, seems, groupsRead, guessed}
 
 pub grow-small : (c m : ℕ) → grow c m < 100
 grow-small c m = go (eqb c 4 && eqb m 20)
@@ -25,7 +25,7 @@ times-small c = go (eqb c 0)
     go true = omega arith
     go false = omega arith
 
-one-small : (v : ℕ) → v < 1000 → one v < 1000
+one-small : (v : ℕ) → v < 1000 → atLeastOne v < 1000
 one-small v h = go (eqb v 0)
   where
     go : (t : Bool) → cond t 1 v < 1000
@@ -39,7 +39,7 @@ seems-below h c (m ∷ ms) a b =
     go (ltb 100 m) (eqb m 100) (seems-below (times c) 0 ms (times-small c) (omega arith)) (seems-below h (grow c m) ms a (grow-small c m))
   where
     go : (s t : Bool) → seems (times c) 0 ms .value < 1000 → seems h (grow c m) ms .value < 1000
-        → cond s (guess (one (100 * h + c)) (m - 1000) ms) (cond t (seems (times c) 0 ms) (seems h (grow c m) ms)) .value < 1000
+        → cond s (guess (atLeastOne (100 * h + c)) (m - 1000) ms) (cond t (seems (times c) 0 ms) (seems h (grow c m) ms)) .value < 1000
     go true t p q = one-small (100 * h + c) (omega arith)
     go false true p q = p
     go false false p q = q
@@ -48,25 +48,25 @@ snoc-groups : (gs : List ℕ) (x : ℕ) → Groups gs → x < 1000 → Groups (g
 snoc-groups [] x a b = (b, tt)
 snoc-groups (g ∷ gs) x a b = (a .0, snoc-groups gs x (a .1) b)
 
-pub reads-groups : (k : ℕ) (g : Group) → g .value < 1000 → Groups (reads k g)
-unfolding reads
+pub reads-groups : (k : ℕ) (g : Group) → g .value < 1000 → Groups (groupsRead k g)
+unfolding groupsRead
 reads-groups zero g h = tt
 reads-groups (suc k) g h = go (eqb (g .order) k) (reads-groups k (seems 0 0 (g .rest)) (seems-below 0 0 (g .rest) (omega arith) (omega arith))) (reads-groups k g h)
   where
-    go : (t : Bool) → Groups (reads k (seems 0 0 (g .rest))) → Groups (reads k g)
-        → Groups (cond t (reads k (seems 0 0 (g .rest)) ++ (g .value ∷ [])) (reads k g ++ (0 ∷ [])))
-    go true p q = snoc-groups (reads k (seems 0 0 (g .rest))) (g .value) p h
-    go false p q = snoc-groups (reads k g) 0 q (omega arith)
+    go : (t : Bool) → Groups (groupsRead k (seems 0 0 (g .rest))) → Groups (groupsRead k g)
+        → Groups (cond t (groupsRead k (seems 0 0 (g .rest)) ++ (g .value ∷ [])) (groupsRead k g ++ (0 ∷ [])))
+    go true p q = snoc-groups (groupsRead k (seems 0 0 (g .rest))) (g .value) p h
+    go false p q = snoc-groups (groupsRead k g) 0 q (omega arith)
 
-pub reads-length : (k : ℕ) (g : Group) → length (reads k g) ≡ k
-unfolding reads
+pub reads-length : (k : ℕ) (g : Group) → length (groupsRead k g) ≡ k
+unfolding groupsRead
 reads-length zero g = refl
 reads-length (suc k) g = go (eqb (g .order) k) (reads-length k (seems 0 0 (g .rest))) (reads-length k g)
   where
-    go : (t : Bool) → length (reads k (seems 0 0 (g .rest))) ≡ k → length (reads k g) ≡ k
-        → length (cond t (reads k (seems 0 0 (g .rest)) ++ (g .value ∷ [])) (reads k g ++ (0 ∷ []))) ≡ suc k
-    go true p q = rw (length-append (reads k (seems 0 0 (g .rest))) (g .value ∷ [])) (omega (arith, p))
-    go false p q = rw (length-append (reads k g) (0 ∷ [])) (omega (arith, q))
+    go : (t : Bool) → length (groupsRead k (seems 0 0 (g .rest))) ≡ k → length (groupsRead k g) ≡ k
+        → length (cond t (groupsRead k (seems 0 0 (g .rest)) ++ (g .value ∷ [])) (groupsRead k g ++ (0 ∷ []))) ≡ suc k
+    go true p q = rw (length-append (groupsRead k (seems 0 0 (g .rest))) (g .value ∷ [])) (omega (arith, p))
+    go false p q = rw (length-append (groupsRead k g) (0 ∷ [])) (omega (arith, q))
 
 pub guessed-groups : (ms : List ℕ) → Groups34 (guessed ms)
 unfolding guessed

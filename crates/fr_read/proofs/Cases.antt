@@ -18,7 +18,7 @@ use Rattle.fr_meanings.specs.Meanings.{meaningOf}
 use Rattle.plan.specs.Phrase.{phraseOf}
 use Rattle.plan.specs.Plan.{pieces, says}
 use Rattle.fr.specs.Pool.{frPool}
-use Rattle.fr_read.specs.Reading.{meant, meanings, grow, times, one, guess, seems, isMinus, behindMinus}
+use Rattle.fr_read.specs.Reading.{meant, meanings, grow, times, atLeastOne, guess, seems, isMinus, behindMinus}
 use Rattle.fr_read.proofs.Seeming.{seems-scale}
 
 -- one more word
@@ -38,10 +38,10 @@ times-one c e = rw e refl
 pub times-more : (c : ℕ) → (c ≡ 0 → ⊥) → c % 10 ≡ times c
 times-more c n = rw (ne-eqb c 0 n) refl
 
-pub one-none : (v : ℕ) → v ≡ 0 → 1 ≡ one v
+pub one-none : (v : ℕ) → v ≡ 0 → 1 ≡ atLeastOne v
 one-none v e = rw e refl
 
-pub one-some : (v : ℕ) → (v ≡ 0 → ⊥) → v ≡ one v
+pub one-some : (v : ℕ) → (v ≡ 0 → ⊥) → v ≡ atLeastOne v
 one-some v n = rw (ne-eqb v 0 n) refl
 
 module _ (h c m : ℕ) (ms : List ℕ) where
@@ -120,7 +120,7 @@ module _ (s : List ℕ) (from c at : ℕ) (inv : (h : ℕ) → seems h 0 (meanin
 -- a group ends at a scale word, or with the text
 module _ (s : List ℕ) (h at : ℕ) (inv : seems 0 0 (meanings s) ≡ seems h 0 (meanings (drop at s))) where
   module _ (c m next : ℕ) (part : (h : ℕ) → seems h 0 (meanings (drop at s)) ≡ seems h c (m ∷ meanings (drop next s))) where
-    pub group-scale : 100 < m → seems 0 0 (meanings s) ≡ guess (one (100 * h + c)) (m - 1000) (meanings (drop next s))
+    pub group-scale : 100 < m → seems 0 0 (meanings s) ≡ guess (atLeastOne (100 * h + c)) (m - 1000) (meanings (drop next s))
     group-scale l = inv ∙ part h ∙ seems-scale h c m (meanings (drop next s)) l
 
     pub group-cent : m ≡ 100 → seems 0 0 (meanings s) ≡ seems (times c) 0 (meanings (drop next s))

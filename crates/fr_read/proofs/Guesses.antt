@@ -18,7 +18,7 @@ use Rattle.cardinals.specs.Cardinal.{groupAt, groupOf, groupsBelow, cardinalWor
 use Rattle.tokens.specs.Tokens.{isGap}
 use Rattle.fr.specs.Rules.{isReformed, frenchJoiner, frenchGroup, french}
 use Rattle.fr.specs.Ordinal.{nthOf, nthPhrase}
-use Rattle.fr_read.specs.Reading.{meanings, Group, guess, seems, reads, isMinus, behindMinus, guessed}
+use Rattle.fr_read.specs.Reading.{meanings, Group, guess, seems, groupsRead, isMinus, behindMinus, guessed}
 use Rattle.fr_read.proofs.Splits.{sense, sense-append, Sounds, sounds-append, sounds-closed, meanings-joined, meanings-nth}
 use Rattle.fr_read.proofs.Known.{zero-known, moins-means, premier-means}
 use Rattle.fr_read.proofs.Below.{zeros, reads-here, reads-over, one-below}
@@ -38,11 +38,11 @@ total-more [] x = omega arith
 total-more (g ∷ gs) x = rw (total-more gs x, pow-succ' 1000 (length gs)) (omega arith)
 
 -- a lowest group alone
-first-alone : (v : ℕ) (g : Group) → total (reads 0 g ++ (v ∷ zeros 33)) ≡ v
-unfolding reads
+first-alone : (v : ℕ) (g : Group) → total (groupsRead 0 g ++ (v ∷ zeros 33)) ≡ v
+unfolding groupsRead
 first-alone v g = omega arith
 
-lone : (v : ℕ) → total (reads 34 (guess v 0 [])) ≡ v
+lone : (v : ℕ) → total (groupsRead 34 (guess v 0 [])) ≡ v
 lone v = ap total (one-below v 0 33 []) ∙ first-alone v (seems 0 0 [])
 
 none-guess : total (guessed (0 ∷ [])) ≡ 0
@@ -108,27 +108,27 @@ module _ (S : Settings) (v : Within (frenchRanges S)) where
         go (suc g) e r = rw (front-some (suc k) (omega arith) (omega arith) (omega (arith, e))) (omega arith)
 
     -- one order more
-    reads-more : (k : ℕ) → suc k ≤ 34 → reads (suc k) (seems 0 0 (below (suc k))) ≡ reads k (seems 0 0 (below k)) ++ (groupAt k n ∷ [])
-    unfolding reads seems groupsBelow
+    reads-more : (k : ℕ) → suc k ≤ 34 → groupsRead (suc k) (seems 0 0 (below (suc k))) ≡ groupsRead k (seems 0 0 (below k)) ++ (groupAt k n ∷ [])
+    unfolding groupsRead seems groupsBelow
     reads-more zero l = go (groupAt 0 n) refl
       where
-        go : (g : ℕ) → groupAt 0 n ≡ g → reads 1 (seems 0 0 (below 1)) ≡ groupAt 0 n ∷ []
+        go : (g : ℕ) → groupAt 0 n ≡ g → groupsRead 1 (seems 0 0 (below 1)) ≡ groupAt 0 n ∷ []
         go zero e = rw (front-none 0 e, e) refl
         go (suc g) e = rw (front-lowest (omega (arith, e))) refl
     reads-more (suc k) l = go (groupAt (suc k) n) refl
       where
-        go : (g : ℕ) → groupAt (suc k) n ≡ g → reads (suc (suc k)) (seems 0 0 (below (suc (suc k)))) ≡ reads (suc k) (seems 0 0 (below (suc k))) ++ (groupAt (suc k) n ∷ [])
+        go : (g : ℕ) → groupAt (suc k) n ≡ g → groupsRead (suc (suc k)) (seems 0 0 (below (suc (suc k)))) ≡ groupsRead (suc k) (seems 0 0 (below (suc k))) ++ (groupAt (suc k) n ∷ [])
         go zero e =
             let o : seems 0 0 (below (suc k)) .order < suc k = order-below k (omega arith) in
             rw (front-none (suc k) e, e) (reads-over (suc k) (seems 0 0 (below (suc k))) (λ q. omega (arith, q, o)))
         go (suc g) e =
             rw (front-some (suc k) (omega arith) (omega arith) (omega (arith, e))) (reads-here (suc k) (groupAt (suc k) n) (below (suc k)))
 
-    number-below : (k : ℕ) → k ≤ 34 → total (reads k (seems 0 0 (below k))) ≡ n % 1000 ^ k
-    unfolding reads
+    number-below : (k : ℕ) → k ≤ 34 → total (groupsRead k (seems 0 0 (below k))) ≡ n % 1000 ^ k
+    unfolding groupsRead
     number-below zero l = sym (mod-one n)
     number-below (suc k) l =
-        let r = reads k (seems 0 0 (below k)) in
+        let r = groupsRead k (seems 0 0 (below k)) in
         let m : n % 1000 ^ suc k ≡ groupAt k n * 1000 ^ k + n % 1000 ^ k = rw (pow-succ', mod-mul n {m = 1000} {c = 1000 ^ k} (omega arith) (one-le-pow k 1000 (omega arith))) refl in
         ap total (reads-more k l) ∙ total-more r (groupAt k n) ∙ rw (reads-length k (seems 0 0 (below k)), number-below k (omega arith), m) (omega arith)
 

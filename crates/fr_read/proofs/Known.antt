@@ -9,7 +9,7 @@ use borrow.Author.Tests.{eqb-true}
 use lib.Dec.{T, eqb, ltb}
 use Rattle.base.specs.Utf8.{utf8, form1}
 use Rattle.base.specs.Join.{Word}
-use Rattle.tokens.specs.Tokens.{split, whole, key}
+use Rattle.tokens.specs.Tokens.{split, fullKey, key}
 use Rattle.meanings.specs.Lookup.{lookup}
 use Rattle.fr_meanings.specs.Meanings.{shifts, table, meaningOf}
 use Rattle.settings.specs.Settings.{frenchSettings, frenchRanges, Within}
@@ -24,7 +24,7 @@ use Rattle.fr_read.proofs.Splits.{closed, sense, Sound, Sounds}
 
 -- a sound word
 sound? : Word → Bool
-unfolding meanings split whole key meaningOf shifts table lookup nth withoutE
+unfolding meanings split fullKey key meaningOf shifts table lookup nth withoutE
 sound? w = closed w && (closed (nth w) && sameText (meanings (nth w)) (meanings w))
 
 sound : (w : Word) → T (sound? w) → Sound w
@@ -43,7 +43,7 @@ pub record Known (w : Word) (m : ℕ) : Type 0 where
   pub means : meanings w ≡ m ∷ []
 
 known? : ℕ → Word → Bool
-unfolding meanings split whole key meaningOf shifts table lookup
+unfolding meanings split fullKey key meaningOf shifts table lookup
 known? m w = sound? w && sameText (meanings w) (m ∷ [])
 
 known : (m : ℕ) (w : Word) → T (known? m w) → Known w m
@@ -92,11 +92,11 @@ unfolding known? sound?
 zero-known = known 0 (utf8 "zéro") tt
 
 pub moins-means : (closed (utf8 "moins") ≡ true) × (meanings (utf8 "moins") ≡ 2001 ∷ [])
-unfolding meanings split whole key meaningOf shifts table lookup
+unfolding meanings split fullKey key meaningOf shifts table lookup
 moins-means = (refl, refl)
 
 pub premier-means : meanings (utf8 "premier") ≡ 1 ∷ []
-unfolding meanings split whole key meaningOf shifts table lookup
+unfolding meanings split fullKey key meaningOf shifts table lookup
 premier-means = refl
 
 -- words of a number below a hundred: none is above it, and they add up to v
@@ -122,7 +122,7 @@ sounds [] t = tt
 sounds (w ∷ ws) t = (sound w (and-left (sound? w) (sounds? ws) t), sounds ws (and-right (sound? w) (sounds? ws) t))
 
 adds? : List Word → ℕ → Bool
-unfolding meanings split whole key meaningOf shifts table lookup
+unfolding meanings split fullKey key meaningOf shifts table lookup
 adds? ws v = sounds? ws && (eqb (grows 0 (sense ws)) v && smalls (sense ws))
 
 adds : (ws : List Word) (v : ℕ) → T (adds? ws v) → Adds ws v

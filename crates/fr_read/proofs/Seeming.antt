@@ -13,7 +13,7 @@ use Rattle.settings.specs.Settings.{frenchRanges, Within}
 use Rattle.settings.specs.declared.Settings.{Settings}
 use Rattle.fr.specs.FrTables.{units}
 use Rattle.fr.specs.Rules.{isMille, centWord, hundredWords, tensWords, numberWords, scaleWords, frenchGroup}
-use Rattle.fr_read.specs.Reading.{meanings, grow, times, one, guess, seems}
+use Rattle.fr_read.specs.Reading.{meanings, grow, times, atLeastOne, guess, seems}
 use Rattle.fr_read.proofs.Splits.{sense, sense-append, Sounds, sounds-append}
 use Rattle.fr_read.proofs.Known.{Known, unit-known, scale-known, cent-known, cents-known, grows, smalls, low-adds}
 
@@ -31,7 +31,7 @@ seems-cent : (h c : ℕ) (R : List ℕ) → seems h c (100 ∷ R) ≡ seems (tim
 unfolding seems
 seems-cent h c R = refl
 
-pub seems-scale : (h c m : ℕ) (R : List ℕ) → 100 < m → seems h c (m ∷ R) ≡ guess (one (100 * h + c)) (m - 1000) R
+pub seems-scale : (h c m : ℕ) (R : List ℕ) → 100 < m → seems h c (m ∷ R) ≡ guess (atLeastOne (100 * h + c)) (m - 1000) R
 unfolding seems
 seems-scale h c m R l = rw (lt-ltb 100 m l) refl
 
@@ -123,7 +123,7 @@ module _ (S : Settings) (v : Within (frenchRanges S)) where
           let q = both-hold (isMille k) (eqb g 1) e in
           rw (s, eqb-true g 1 (q .1)) (seems-scale 0 0 (1000 + k) R (omega arith) ∙ rw o refl)
       go false e =
-          let u : one (100 * (g / 100 % 10) + (10 * (g / 10 % 10) + g % 10)) ≡ g = rw (digits g l, ne-eqb g 0 (λ z. omega arith)) refl in
+          let u : atLeastOne (100 * (g / 100 % 10) + (10 * (g / 10 % 10) + g % 10)) ≡ g = rw (digits g l, ne-eqb g 0 (λ z. omega arith)) refl in
           ap (λ (m : List ℕ). seems 0 0 (m ++ R)) (sense-append (numberWords S k g) (scaleWords k g))
           ∙ ap (λ (m : List ℕ). seems 0 0 m) (append-assoc (sense (numberWords S k g)) (sense (scaleWords k g)) R)
           ∙ number-seems k g (sense (scaleWords k g) ++ R)

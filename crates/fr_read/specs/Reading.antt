@@ -28,8 +28,8 @@ abbrev pub times : ℕ → ℕ
 times c = cond (eqb c 0) 1 (c % 10)
 
 -- how many of its scale a scale word is after the number v: 1 where nothing stands before it
-abbrev pub one : ℕ → ℕ
-one v = cond (eqb v 0) 1 v
+abbrev pub atLeastOne : ℕ → ℕ
+atLeastOne v = cond (eqb v 0) 1 v
 
 -- a group's value and order, and the meanings behind it
 pub record Group : Type 0 where
@@ -44,12 +44,12 @@ guess v k ms = record { value = v; order = k; rest = ms }
 -- the group at the front, after h hundreds and c: a scale word ends it
 unfoldable pub seems : ℕ → ℕ → List ℕ → Group
 seems h c [] = guess (100 * h + c) 0 []
-seems h c (m ∷ ms) = cond (ltb 100 m) (guess (one (100 * h + c)) (m - 1000) ms) (cond (eqb m 100) (seems (times c) 0 ms) (seems h (grow c m) ms))
+seems h c (m ∷ ms) = cond (ltb 100 m) (guess (atLeastOne (100 * h + c)) (m - 1000) ms) (cond (eqb m 100) (seems (times c) 0 ms) (seems h (grow c m) ms))
 
 -- the groups below an order, the lowest first, where g is at the front
-unfoldable pub reads : ℕ → Group → List ℕ
-reads zero g = []
-reads (suc k) g = cond (eqb (g .order) k) (reads k (seems 0 0 (g .rest)) ++ (g .value ∷ [])) (reads k g ++ (0 ∷ []))
+unfoldable pub groupsRead : ℕ → Group → List ℕ
+groupsRead zero g = []
+groupsRead (suc k) g = cond (eqb (g .order) k) (groupsRead k (seems 0 0 (g .rest)) ++ (g .value ∷ [])) (groupsRead k g ++ (0 ∷ []))
 
 -- whether the minus word is at the front
 abbrev pub isMinus : List ℕ → Bool
@@ -62,4 +62,4 @@ behindMinus ms = cond (isMinus ms) (drop 1 ms) ms
 
 -- the groups of a text
 unfoldable pub guessed : List ℕ → List ℕ
-guessed ms = reads frenchOrders (seems 0 0 ms)
+guessed ms = groupsRead frenchOrders (seems 0 0 ms)

@@ -19,7 +19,7 @@ ghost use Rattle.fr.specs.Rules.{french};
 ghost use Rattle.fr.specs.Ordinal.{nthPhrase};
 ghost use Rattle.groups.specs.Highest.{ZeroFrom, Highest};
 ghost use Rattle.fr_plan.specs.Groups34.{Groups34};
-ghost use Rattle.fr_read.specs.Reading.{meanings, grow as growOf, times as timesOf, one as oneOf, guess as guessOf, seems, reads, isMinus, behindMinus, guessed};
+ghost use Rattle.fr_read.specs.Reading.{meanings, grow as growOf, times as timesOf, atLeastOne, guess as guessOf, seems, groupsRead, isMinus, behindMinus, guessed};
 ghost use Rattle.fr_read.specs.Promise.{ReadNth};
 
 // The meaning of the minus word, and those of the scale words: an order above this.
@@ -86,7 +86,7 @@ fn times(c: u16) -> u16
 
 // What a scale word is after the number v.
 fn one(v: u16) -> u16
-    ensures { λ r. ⌜ r ≡ oneOf v ⌝ }
+    ensures { λ r. ⌜ r ≡ atLeastOne v ⌝ }
 {
     if v == 0 { 1 } else { v }
 }
@@ -164,8 +164,8 @@ fn first_group(s: &[u8]) -> Group
 // Below order 0 no word is taken.
 fn groups(k: usize, s: &[u8], out: &mut [u16; ORDERS]) -> usize
     requires { ⌜ (k ≤ 34) × (now out ≡ replicate k 0 ++ drop k (now out)) ⌝ }
-    ensures { λ _. ⌜ now (out .exit) ≡ reads k (seems 0 0 (meanings (now (s .entry)))) ++ drop k (now (out .entry)) ⌝ }
-    ensures { λ r. ⌜ ZeroFrom (reads k (seems 0 0 (meanings (now (s .entry))))) r × (r ≤ k) ⌝ }
+    ensures { λ _. ⌜ now (out .exit) ≡ groupsRead k (seems 0 0 (meanings (now (s .entry)))) ++ drop k (now (out .entry)) ⌝ }
+    ensures { λ r. ⌜ ZeroFrom (groupsRead k (seems 0 0 (meanings (now (s .entry))))) r × (r ≤ k) ⌝ }
 {
     if k == 0 {
         return 0;

@@ -9,7 +9,7 @@ use lib.Dec.{lit<}
 use Rattle.base.specs.Utf8.{utf8, form1, form2, form3}
 use Rattle.base.proofs.Same.{same-not}
 use Rattle.settings.specs.Settings.{accusative, inCase}
-use Rattle.tokens.specs.Tokens.{firstWord, afterWord, split, whole, key}
+use Rattle.tokens.specs.Tokens.{firstWord, afterWord, split, fullKey, key}
 use Rattle.meanings.specs.Lookup.{lookup}
 use Rattle.uk_meanings.specs.Meanings.{shifts, table, meaningOf}
 use Rattle.figures.specs.Groups.{total}
@@ -38,15 +38,15 @@ abbrev twoThousand : List ℕ
 twoThousand = utf8 "два тисячі"
 
 unsigned-two : signed (split twoThousand) ≡ false
-unfolding firstWord afterWord split whole key lookup shifts table meaningOf taken sums
+unfolding firstWord afterWord split fullKey key lookup shifts table meaningOf taken sums
 unsigned-two = refl
 
 unsigned-words : afterMinus (split twoThousand) ≡ split twoThousand
-unfolding firstWord afterWord split whole key lookup shifts table meaningOf
+unfolding firstWord afterWord split fullKey key lookup shifts table meaningOf
 unsigned-words = refl
 
 taken-two : taken 0 (split twoThousand) ≡ closed 2 1 []
-unfolding firstWord afterWord split whole key lookup shifts table meaningOf taken
+unfolding firstWord afterWord split fullKey key lookup shifts table meaningOf taken
 taken-two = refl
 
 -- no group above order 1

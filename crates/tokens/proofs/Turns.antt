@@ -17,7 +17,7 @@ use lib.Seq.{drop-drop, drop-cons, take-all}
 use Rattle.base.specs.Bytes.{num, Bytes}
 use Rattle.base.proofs.Numbers.{bytes-drop}
 use Rattle.tables.proofs.Tests.{all-at}
-use Rattle.tokens.specs.Tokens.{firstWord, afterWord, whole, key, Begun, Took}
+use Rattle.tokens.specs.Tokens.{firstWord, afterWord, fullKey, key, Begun, Took}
 use Rattle.tokens.specs.Turns.{lows, letters, lastWhole, Ends}
 
 -- a byte below 64 is found
@@ -126,8 +126,8 @@ rest b x h i = h (suc i)
 
 -- n letters at the front of a text belong to its first word
 over : (n : ℕ) (x : List ℕ) → Bytes x → n ≤ length x → lows n (num (take n x)) ≡ 0
-    → (whole (firstWord x) ≡ num (take n x) + 2 ^ (n * 8) * whole (firstWord (drop n x))) × (afterWord x ≡ afterWord (drop n x))
-unfolding lows firstWord afterWord whole
+    → (fullKey (firstWord x) ≡ num (take n x) + 2 ^ (n * 8) * fullKey (firstWord (drop n x))) × (afterWord x ≡ afterWord (drop n x))
+unfolding lows firstWord afterWord fullKey
 over zero x h l e = (omega arith, refl)
 over (suc n) [] h l e = absurd (omega arith)
 over (suc n) (b ∷ x) h l e =
@@ -135,20 +135,20 @@ over (suc n) (b ∷ x) h l e =
     go (ltb b 64) (rw (m .0, m .1) at e) (over n x (rest b x h) (omega arith))
   where
     go : (t : Bool) → lows n (num (take n x)) * 256 + cond t 64 0 ≡ 0
-        → (lows n (num (take n x)) ≡ 0 → (whole (firstWord x) ≡ num (take n x) + 2 ^ (n * 8) * whole (firstWord (drop n x))) × (afterWord x ≡ afterWord (drop n x)))
-        → (whole (cond t [] (b ∷ firstWord x)) ≡ b + num (take n x) * 256 + 2 ^ (suc n * 8) * whole (firstWord (drop n x))) × (cond t x (afterWord x) ≡ afterWord (drop n x))
+        → (lows n (num (take n x)) ≡ 0 → (fullKey (firstWord x) ≡ num (take n x) + 2 ^ (n * 8) * fullKey (firstWord (drop n x))) × (afterWord x ≡ afterWord (drop n x)))
+        → (fullKey (cond t [] (b ∷ firstWord x)) ≡ b + num (take n x) * 256 + 2 ^ (suc n * 8) * fullKey (firstWord (drop n x))) × (cond t x (afterWord x) ≡ afterWord (drop n x))
     go true e f = absurd (omega arith)
     go false e f =
         let r = f (omega arith) in
-        let w = whole (firstWord (drop n x)) in
+        let w = fullKey (firstWord (drop n x)) in
         let q : suc n * 8 ≡ 8 + n * 8 = omega arith in
         let g : 2 ^ (suc n * 8) * w ≡ 256 * (2 ^ (n * 8) * w) = rw (q, pow-add 2 8 (n * 8)) (mul-assoc 256 (2 ^ (n * 8)) w) in
         (omega (arith, r .0, g), r .1)
 
 -- a byte below 64 among the first n, or the end of the text, ends its first word
 ended : (n : ℕ) (x : List ℕ) → Bytes x → (lows n (num (take n x)) ≡ 0 → ⊥)
-    → (whole (firstWord x) ≡ lastWhole (letters n (num (take n x))) (num (take n x))) × (afterWord x ≡ drop (suc (letters n (num (take n x)))) x) × (letters n (num (take n x)) ≤ length x)
-unfolding lows letters firstWord afterWord whole
+    → (fullKey (firstWord x) ≡ lastWhole (letters n (num (take n x))) (num (take n x))) × (afterWord x ≡ drop (suc (letters n (num (take n x)))) x) × (letters n (num (take n x)) ≤ length x)
+unfolding lows letters firstWord afterWord fullKey
 ended zero x h e = absurd (e refl)
 ended (suc n) [] h e = (refl, refl, omega arith)
 ended (suc n) (b ∷ x) h e =
@@ -159,8 +159,8 @@ ended (suc n) (b ∷ x) h e =
     w = num (take n x)
 
     go : (t : Bool) → (lows n w * 256 + cond t 64 0 ≡ 0 → ⊥)
-        → ((lows n w ≡ 0 → ⊥) → (whole (firstWord x) ≡ lastWhole (letters n w) w) × (afterWord x ≡ drop (suc (letters n w)) x) × (letters n w ≤ length x))
-        → (whole (cond t [] (b ∷ firstWord x)) ≡ lastWhole (cond t 0 (suc (letters n w))) (b + w * 256))
+        → ((lows n w ≡ 0 → ⊥) → (fullKey (firstWord x) ≡ lastWhole (letters n w) w) × (afterWord x ≡ drop (suc (letters n w)) x) × (letters n w ≤ length x))
+        → (fullKey (cond t [] (b ∷ firstWord x)) ≡ lastWhole (cond t 0 (suc (letters n w))) (b + w * 256))
         × (cond t x (afterWord x) ≡ drop (suc (cond t 0 (suc (letters n w)))) (b ∷ x)) × (cond t 0 (suc (letters n w)) ≤ suc (length x))
     go true e f = (omega arith, refl, omega arith)
     go false e f =
@@ -210,7 +210,7 @@ counted k w v =
 -- before the first turn
 pub begun-none : (s : List ℕ) → Begun s 0 0
 unfolding key
-begun-none s = (ap (λ (n : ℕ). n % 823685) (sym (zero-add (whole (firstWord s)))), refl)
+begun-none s = (ap (λ (n : ℕ). n % 823685) (sym (zero-add (fullKey (firstWord s)))), refl)
 
 -- the bytes that are left, where they are fewer than eight
 pub left : (s : List ℕ) (i w : ℕ) → length s < i + 8 → w ≡ num (drop i s) → w ≡ num (take 8 (drop i s))
@@ -228,7 +228,7 @@ module _ (s : List ℕ) (h : Bytes s) (i k w : ℕ) (b : Begun s i k) (e : w ≡
   begun-on l z =
       let o = over 8 (drop i s) here (omega (arith, length-drop i s)) (rw e at z) in
       let d = drop-drop 8 i s in
-      (b .0 ∙ ap (λ (n : ℕ). (k + n) % 823685) (o .0 ∙ rw (sym e, d) refl) ∙ counted k w (whole (firstWord (drop (i + 8) s))), b .1 ∙ o .1 ∙ ap afterWord d)
+      (b .0 ∙ ap (λ (n : ℕ). (k + n) % 823685) (o .0 ∙ rw (sym e, d) refl) ∙ counted k w (fullKey (firstWord (drop (i + 8) s))), b .1 ∙ o .1 ∙ ap afterWord d)
 
   -- the last turn
   pub within : Ends w → i ≤ length s → i + letters 8 w ≤ length s
@@ -238,7 +238,7 @@ module _ (s : List ℕ) (h : Bytes s) (i k w : ℕ) (b : Begun s i k) (e : w ≡
       → n ≡ cond (ltb (i + letters 8 w) (length s)) (i + letters 8 w + 1) (i + letters 8 w) → Took s r n
   took z l r n f g =
       let o = ended 8 (drop i s) here (rw e at z) in
-      let v : whole (firstWord (drop i s)) ≡ lastWhole (letters 8 w) w = o .0 ∙ rw (sym e) refl in
+      let v : fullKey (firstWord (drop i s)) ≡ lastWhole (letters 8 w) w = o .0 ∙ rw (sym e) refl in
       let a : afterWord s ≡ drop (i + suc (letters 8 w)) s = b .1 ∙ o .1 ∙ rw (sym e) (drop-drop (suc (letters 8 w)) i s) in
       let r = go (ltb (i + letters 8 w) (length s)) refl g (within z l) a in (f ∙ ap (λ (m : ℕ). (k + m) % 823685) (sym v) ∙ sym (b .0), r .0, r .1, r .2)
     where

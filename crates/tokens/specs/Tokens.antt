@@ -30,17 +30,17 @@ split [] = []
 split (b ∷ s) = cond (isGap b) ([] ∷ split s) (toFirst b (split s))
 
 -- a word's bytes as one number, the first the lowest, with 62 above the last
-unfoldable pub whole : Word → ℕ
-whole [] = 62
-whole (b ∷ w) = b + 256 * whole w
+unfoldable pub fullKey : Word → ℕ
+fullKey [] = 62
+fullKey (b ∷ w) = b + 256 * fullKey w
 
 -- the number by which a reader knows a word: no two number words of a language have one unless they mean the same
 unfoldable pub key : Word → ℕ
-key w = whole w % 823685
+key w = fullKey w % 823685
 
 -- no gap stands before i in the first word of s, and k is what its bytes there add to the key
 abbrev pub Begun : List ℕ → ℕ → ℕ → Type 0
-Begun s i k = (key (firstWord s) ≡ (k + whole (firstWord (drop i s))) % 823685) × (afterWord s ≡ afterWord (drop i s))
+Begun s i k = (key (firstWord s) ≡ (k + fullKey (firstWord (drop i s))) % 823685) × (afterWord s ≡ afterWord (drop i s))
 
 -- k is the key of the first word of s, and the next word starts at n
 abbrev pub Took : List ℕ → ℕ → ℕ → Type 0

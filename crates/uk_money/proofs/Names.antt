@@ -41,7 +41,7 @@ rows side table e z s i h =
     let t : told (side (currencyAt i)) ≡ toldIn row =
     sym (List·getD-map (λ c. told (side c)) currencies i past) ∙ ap (λ l. getD l i (told (side past))) e ∙ ap (getD (map toldIn table) i) z ∙ List·getD-map toldIn table i [] in
     let b = both-hold (ltb (getD row 2 0) 8) (ltb (getD row 3 0) 3) (all-at 0 44 (λ i. small (getD table i [])) s i (omega arith) h) in
-    record { gender = ap (λ p. p .0) t; forms = λ S. ap (λ p. p .1 S) t; classed = ltb-true (getD row 2 0) 8 (b .0); gendered = ltb-true (getD row 3 0) 3 (b .1) }
+    record { gender = ap (λ p. p .0) t; forms = λ S. ap (λ p. p .1 S) t; classBelow = ltb-true (getD row 2 0) 8 (b .0); genderBelow = ltb-true (getD row 3 0) 3 (b .1) }
 
 pub main-rows : (i : ℕ) → i < 44 → Row (currencyAt i .main) (getD places.main i [])
 unfolding currencies nameForms formOf part ukPool
@@ -53,10 +53,10 @@ fraction-rows = rows (λ c. c .fraction) places.fraction refl refl refl
 
 -- the genders of names
 pub main-gender : (i : ℕ) → i < 44 → currencyAt i .main .gender < 3
-main-gender i h = let r = main-rows i h in rw (r .gender) (r .gendered)
+main-gender i h = let r = main-rows i h in rw (r .gender) (r .genderBelow)
 
 pub fraction-gender : (i : ℕ) → i < 44 → currencyAt i .fraction .gender < 3
-fraction-gender i h = let r = fraction-rows i h in rw (r .gender) (r .gendered)
+fraction-gender i h = let r = fraction-rows i h in rw (r .gender) (r .genderBelow)
 
 -- the endings
 entry : ℕ → ℕ → Bool

@@ -44,8 +44,8 @@ pub record FormAt (S : Settings) (place : ℕ) : Type 0 where
 pub record Row (name : Name) (row : List ℕ) : Type 0 where
   pub gender : name .gender ≡ getD row 3 0
   pub forms : (S : Settings) → nameForms S name ≡ formsIn S row
-  pub classed : getD row 2 0 < 8
-  pub gendered : getD row 3 0 < 3
+  pub classBelow : getD row 2 0 < 8
+  pub genderBelow : getD row 3 0 < 3
 
 -- what stands past the end of the currencies
 abbrev pub past : Currency

@@ -12,7 +12,7 @@ use Rattle.base.specs.Utf8.{form2}
 use Rattle.settings.specs.Settings.{ukrainianRanges, Within}
 use Rattle.settings.specs.declared.Settings.{Settings}
 use Rattle.tables.proofs.Tests.{and-left, and-right, all, all-at, clash}
-use Rattle.tokens.specs.Tokens.{whole, key}
+use Rattle.tokens.specs.Tokens.{fullKey, key}
 use Rattle.tokens.proofs.Words.{isWord, Separable}
 use Rattle.meanings.specs.Lookup.{lookup}
 use Rattle.uk_meanings.specs.Meanings.{shifts, table, meaningOf}
@@ -41,7 +41,7 @@ pub record Named (ws : List Word) : Type 0 where
   pub separable : Separable ws
 
 quiet? : List Word → Bool
-unfolding meaningOf shifts table lookup whole key
+unfolding meaningOf shifts table lookup fullKey key
 quiet? [] = true
 quiet? (w ∷ ws) = (eqb (mean w) 0 && isWord w) && quiet? ws
 

@@ -10,7 +10,7 @@ use lib.Dec.{eqb}
 use Rattle.base.specs.Join.{Word}
 use Rattle.base.specs.Utf8.{utf8, form1, form2, form3}
 use Rattle.tables.proofs.Tests.{and-left, and-right, all, all-at}
-use Rattle.tokens.specs.Tokens.{whole, key}
+use Rattle.tokens.specs.Tokens.{fullKey, key}
 use Rattle.tokens.proofs.Words.{isWord}
 use Rattle.meanings.specs.Lookup.{lookup}
 use Rattle.uk_meanings.specs.Meanings.{shifts, table, meaningOf}
@@ -28,7 +28,7 @@ pub record Known (w : Word) (v : ℕ) : Type 0 where
   pub sound : isWord w ≡ true
 
 known? : Word → ℕ → Bool
-unfolding meaningOf shifts table lookup whole key
+unfolding meaningOf shifts table lookup fullKey key
 known? w v = eqb (mean w) v && isWord w
 
 knows : (w : Word) (v : ℕ) → known? w v ≡ true → Known w v

@@ -7,7 +7,7 @@ use mathlib.Core.List.{List, [], _∷_}
 use native.Mathlib.Omega.{arith}
 use lib.ListN.{length, take, drop, length-drop, drop-of-length-le}
 use lib.Seq.{take-all, drop-drop}
-use Rattle.tokens.specs.Tokens.{isGap, firstWord, afterWord, whole, key}
+use Rattle.tokens.specs.Tokens.{isGap, firstWord, afterWord, fullKey, key}
 use Rattle.tokens.specs.declared.Token.{Token}
 use Rattle.walker.specs.Walk.{span, wordAt}
 
@@ -56,7 +56,7 @@ word-here s at t e f l =
     token t (key (firstWord (drop at s))) (span (drop at s)) (rw d at e) (omega arith)
 
 pub word-none : (s : List ℕ) (at : ℕ) → length s ≤ at → record { key = 62; next = 0 } ≡ wordAt s at
-unfolding firstWord afterWord whole key
+unfolding firstWord afterWord fullKey key
 word-none s at h = let d = drop-of-length-le s {i = at} h in rw d refl
 
 -- a step of a walk goes on, within the phrase, to what is behind the word

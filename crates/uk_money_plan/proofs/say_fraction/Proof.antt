@@ -17,7 +17,7 @@ say-count-requires c κs =
     let s = c .before .before .before .before .before in
     let h = s .args .hundredths in
     let r = c .before .before .before .fraction-row .ensures in (
-      (r .classed, r .gendered, s .pre .0, omega arith, one-order h, omega (arith, s .pre .4)),
+      (r .classBelow, r .genderBelow, s .pre .0, omega arith, one-order h, omega (arith, s .pre .4)),
       (one-group h (s .pre .3), refl, sym (ne-eqb _ 0 (λ z. omega (arith, s .pre .2, sym (one-total h) ∙ z)))),
     )
 
