@@ -10,7 +10,6 @@ use Rattle.figures.specs.Text.{value, negative, unsigned}
 abbrev pub yearOf : List ℕ → ℤ
 yearOf xs = cond (negative xs) (negℤ (pos (value (unsigned xs)))) (pos (value (unsigned xs)))
 
--- the largest magnitude of a negative year ("Ukrainian ordinals, years, codes": "of the lowest year is
--- 9,223,372,036,854,775,808"), and of any other
+-- the largest magnitude of a negative year ("Ukrainian ordinals, years, codes": "of the lowest year is 9,223,372,036,854,775,808"), and of any other
 abbrev pub yearLimit : Bool → ℕ
 yearLimit minus = cond minus (2 ^ 63) (2 ^ 63 - 1)

@@ -1,5 +1,5 @@
--- French, rule by rule as 01 has it ("French"): the words of a group, an ordinal's last word, and what the language has for its cardinals. A word may have a hyphen or ` et ` in it, as in fr.rs.
--- Orders count groups from 0; g is a group, h, t and u are its hundreds, tens and units digits.
+-- French, rule by rule as 01 has it ("French"): the words of a group, an ordinal's last word, and what the language has for its cardinals. A word may
+-- have a hyphen or ` et ` in it, as in fr.rs. Orders count groups from 0; g is a group, h, t and u are its hundreds, tens and units digits.
 -- Assumes nothing.
 use Prim.Native.Nat.{ℕ, zero, suc, _-_, _/_, _%_}
 use mathlib.Core.Bool.{Bool, true, false, cond, not, _&&_, _||_}

@@ -18,7 +18,7 @@ use Rattle.base.specs.Bytes.{num, Bytes}
 use Rattle.base.proofs.Numbers.{bytes-drop}
 use Rattle.tables.proofs.Tests.{all-at}
 use Rattle.tokens.specs.Tokens.{firstWord, afterWord, fullKey, key, Begun, Took}
-use Rattle.tokens.specs.Turns.{lows, letters, lastWhole, Ends}
+use Rattle.tokens.specs.Turns.{lows, letters, lastKey, Ends}
 
 -- a byte below 64 is found
 abbrev mask : ℕ → ℕ
@@ -147,7 +147,7 @@ over (suc n) (b ∷ x) h l e =
 
 -- a byte below 64 among the first n, or the end of the text, ends its first word
 ended : (n : ℕ) (x : List ℕ) → Bytes x → (lows n (num (take n x)) ≡ 0 → ⊥)
-    → (fullKey (firstWord x) ≡ lastWhole (letters n (num (take n x))) (num (take n x))) × (afterWord x ≡ drop (suc (letters n (num (take n x)))) x) × (letters n (num (take n x)) ≤ length x)
+    → (fullKey (firstWord x) ≡ lastKey (letters n (num (take n x))) (num (take n x))) × (afterWord x ≡ drop (suc (letters n (num (take n x)))) x) × (letters n (num (take n x)) ≤ length x)
 unfolding lows letters firstWord afterWord fullKey
 ended zero x h e = absurd (e refl)
 ended (suc n) [] h e = (refl, refl, omega arith)
@@ -159,8 +159,8 @@ ended (suc n) (b ∷ x) h e =
     w = num (take n x)
 
     go : (t : Bool) → (lows n w * 256 + cond t 64 0 ≡ 0 → ⊥)
-        → ((lows n w ≡ 0 → ⊥) → (fullKey (firstWord x) ≡ lastWhole (letters n w) w) × (afterWord x ≡ drop (suc (letters n w)) x) × (letters n w ≤ length x))
-        → (fullKey (cond t [] (b ∷ firstWord x)) ≡ lastWhole (cond t 0 (suc (letters n w))) (b + w * 256))
+        → ((lows n w ≡ 0 → ⊥) → (fullKey (firstWord x) ≡ lastKey (letters n w) w) × (afterWord x ≡ drop (suc (letters n w)) x) × (letters n w ≤ length x))
+        → (fullKey (cond t [] (b ∷ firstWord x)) ≡ lastKey (cond t 0 (suc (letters n w))) (b + w * 256))
         × (cond t x (afterWord x) ≡ drop (suc (cond t 0 (suc (letters n w)))) (b ∷ x)) × (cond t 0 (suc (letters n w)) ≤ suc (length x))
     go true e f = (omega arith, refl, omega arith)
     go false e f =
@@ -234,11 +234,11 @@ module _ (s : List ℕ) (h : Bytes s) (i k w : ℕ) (b : Begun s i k) (e : w ≡
   pub within : Ends w → i ≤ length s → i + letters 8 w ≤ length s
   within z l = let o = ended 8 (drop i s) here (rw e at z) in omega (arith, length-drop i s, rw (← e) at (o .2))
 
-  pub took : Ends w → i ≤ length s → (r n : ℕ) → r ≡ (k + lastWhole (letters 8 w) w) % 823685
+  pub took : Ends w → i ≤ length s → (r n : ℕ) → r ≡ (k + lastKey (letters 8 w) w) % 823685
       → n ≡ cond (ltb (i + letters 8 w) (length s)) (i + letters 8 w + 1) (i + letters 8 w) → Took s r n
   took z l r n f g =
       let o = ended 8 (drop i s) here (rw e at z) in
-      let v : fullKey (firstWord (drop i s)) ≡ lastWhole (letters 8 w) w = o .0 ∙ rw (sym e) refl in
+      let v : fullKey (firstWord (drop i s)) ≡ lastKey (letters 8 w) w = o .0 ∙ rw (sym e) refl in
       let a : afterWord s ≡ drop (i + suc (letters 8 w)) s = b .1 ∙ o .1 ∙ rw (sym e) (drop-drop (suc (letters 8 w)) i s) in
       let r = go (ltb (i + letters 8 w) (length s)) refl g (within z l) a in (f ∙ ap (λ (m : ℕ). (k + m) % 823685) (sym v) ∙ sym (b .0), r .0, r .1, r .2)
     where

@@ -20,5 +20,5 @@ letters zero w = 0
 letters (suc n) w = cond (ltb (w % 256) 64) 0 (suc (letters n (w / 256)))
 
 -- a word's last p bytes as one number with 62 above them, where they are the lowest of w
-abbrev pub lastWhole : ℕ → ℕ → ℕ
-lastWhole p w = w % 2 ^ (p * 8) + 2 ^ (p * 8) * 62
+abbrev pub lastKey : ℕ → ℕ → ℕ
+lastKey p w = w % 2 ^ (p * 8) + 2 ^ (p * 8) * 62

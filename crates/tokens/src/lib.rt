@@ -7,7 +7,7 @@ ghost use Prim.Native.Nat.{_+_, _≤_, _<_, _%_};
 ghost use lib.Dec.{ltb};
 ghost use lib.ListN.{length};
 ghost use Rattle.tokens.specs.Tokens.{Begun, Took};
-ghost use Rattle.tokens.specs.Turns.{lows, letters, lastWhole, Ends};
+ghost use Rattle.tokens.specs.Turns.{lows, letters, lastKey, Ends};
 
 // The key of a text's first word, and how many bytes the word and the gap behind it have.
 pub struct Token {
@@ -39,7 +39,7 @@ fn low(w: u64) -> u64
 // are zeros. However many letters there are, no branch is taken.
 fn end(k: u64, w: u64, i: usize, n: usize) -> Token
     requires { ⌜ (k < 823685) × Ends w × (i + letters 8 w ≤ n) ⌝ }
-    ensures { λ r. ⌜ (r .key ≡ (k + lastWhole (letters 8 w) w) % 823685) × (r .next ≡ cond (ltb (i + letters 8 w) n) (i + letters 8 w + 1) (i + letters 8 w)) ⌝ }
+    ensures { λ r. ⌜ (r .key ≡ (k + lastKey (letters 8 w) w) % 823685) × (r .next ≡ cond (ltb (i + letters 8 w) n) (i + letters 8 w + 1) (i + letters 8 w)) ⌝ }
 {
     let z = u64::trailing_zeros(low(w)) as u64;
     let b = 1 << (z - 6);

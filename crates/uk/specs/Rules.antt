@@ -16,8 +16,8 @@ abbrev pub opt : (ℕ → Word) → ℕ → List Word
 opt w zero = []
 opt w (suc d) = w (suc d) ∷ []
 
--- the tens digit t and the units digit u: "if the tens digit is 1, a teen (`TEENS_BASES` and
--- `TEENS_FLEXIONS`); else the tens word if any and the unit word if any"
+-- the tens digit t and the units digit u: "if the tens digit is 1, a teen (`TEENS_BASES` and `TEENS_FLEXIONS`);
+-- else the tens word if any and the unit word if any"
 abbrev pub lowWords : DigitWords → ℕ → ℕ → List Word
 lowWords W zero u = opt (W .unit) u
 lowWords W (suc zero) u = W .teen (10 + u) ∷ []

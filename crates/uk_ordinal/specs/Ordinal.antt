@@ -39,8 +39,8 @@ compoundDigits S = record {
   unit = λ u. cond (eqb u 1) (utf8 oneBase) (unitForm (inGenitive S) u);
 }
 
--- what stands before the scale base of the group g, the number above it being rest: nothing for "A lone group of 1 above
--- order 0", else "its genitive cardinal words"
+-- what stands before the scale base of the group g, the number above it being rest: nothing for "A lone group of 1 above order 0",
+-- else "its genitive cardinal words"
 abbrev pub compoundWords : Settings → ℕ → ℕ → List Word
 compoundWords S rest g = cond (eqb rest 0 && eqb g 1) [] (numWords (compoundDigits S) (g / 100 % 10) (g / 10 % 10) (g % 10))
 

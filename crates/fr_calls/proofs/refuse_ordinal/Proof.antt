@@ -9,5 +9,5 @@ pub refuse-ordinal-spec : {M : Type 1} → statement M
 refuse-ordinal-spec =
     tie.close
     (tie.spec (λ c κs. search needs) (λ c κs. search needs) (λ c κs. search needs)
-    (λ c. rw (sym (c .before .before .before .is-french .ensures) ∙ c .before .before .if1 .taken) (c .number-of .ensures ∙ c .before .judge-ordinal .ensures))
+    (λ c. rw (sym (c .before .before .before .is-french .ensures) ∙ c .before .before .if1 .taken) (c .number-of .ensures ∙ search needs))
     (λ c. rw (sym (c .before .is-french .ensures) ∙ c .if1 .left) refl))

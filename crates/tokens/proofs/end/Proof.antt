@@ -7,7 +7,7 @@ use native.Mathlib.Omega.{arith}
 use native.Mathlib.Nat.{mod-lt}
 use borrow.Author.Tests.{lt-ltb, le-ltb}
 use lib.Count.{trailingZeros}
-use Rattle.tokens.specs.Turns.{letters, lastWhole}
+use Rattle.tokens.specs.Turns.{letters, lastKey}
 use Rattle.tokens.proofs.Turns.{Stops, stops, shifted}
 use Rattle.tokens.proofs.end.Statement.{statement}
 use Rattle.tokens.proofs.end.Tie as tie
@@ -31,7 +31,7 @@ module _ (c : tie.After-low) where
   below : w % b < b
   below = mod-lt w (rw (cut .0) (cut .1))
 
-  told : (c .before .args .k + (w % b + b * 62)) % 823685 ≡ (c .before .args .k + lastWhole (letters 8 w) w) % 823685
+  told : (c .before .args .k + (w % b + b * 62)) % 823685 ≡ (c .before .args .k + lastKey (letters 8 w) w) % 823685
   told = ap (λ (n : ℕ). (c .before .args .k + (w % n + n * 62)) % 823685) (cut .0)
 
   counts : z / 8 ≡ letters 8 w
