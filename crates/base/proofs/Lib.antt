@@ -1,4 +1,5 @@
 pub mod Fronts
 pub mod Replies
+pub mod Closing
 pub mod Same
 pub mod Numbers

@@ -80,14 +80,3 @@ pub record Answers (r : Answer) (xs ys : List ℕ) (reply : Reply) : Type 0 wher
   pub reported : r .number ≡ numberOf reply
   pub sized : r .length ≡ lengthOf reply
   pub held : ys ≡ bufferOf xs reply
-
--- what a reading call promises of its answer r to the phrase s, for the buffer xs left as ys, where no refusal comes before the phrase's (01,
--- "Phrase grammar and reader"): a sentence whose value is the text t is answered by t, or by 7 where t does not fit; any other bytes by 6
-pub record Reads (Means : List ℕ → List ℕ → Type 0) (s : List ℕ) (r : Answer) (xs ys : List ℕ) : Type 0 where
-  pub sentence : (t : List ℕ) → Means s t → Answers r xs ys (fitted xs t)
-  pub otherwise : ((t : List ℕ) → Means s t → ⊥) → Answers r xs ys (refused noSentence 0)
-
--- the same, where the refusal n comes first unless it is 0
-abbrev pub ReadsUnless : ℕ → (List ℕ → List ℕ → Type 0) → List ℕ → Answer → List ℕ → List ℕ → Type 0
-ReadsUnless zero Means s r xs ys = Reads Means s r xs ys
-ReadsUnless (suc n) Means s r xs ys = Answers r xs ys (refused (suc n) 0)

@@ -8,4 +8,6 @@ pub mod Join
 pub mod Divide
 pub mod Decides
 pub mod Answer
+pub mod Reading
+pub mod Room
 pub mod Claim

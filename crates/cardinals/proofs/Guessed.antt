@@ -2,7 +2,7 @@
 -- value of the bytes wherever they are a sentence.
 -- Assumes nothing.
 use Prim.Native.Nat.{ℕ, zero, suc, _^_, _<_}
-use mathlib.Core.Path.{_≡_, refl, sym, _∙_, ap, subst}
+use mathlib.Core.Path.{_≡_, refl, _∙_, subst}
 use mathlib.Core.Bool.{Bool, true, false, cond}
 use mathlib.Core.List.{List}
 use native.Mathlib.Omega.{arith}
@@ -11,10 +11,19 @@ use lib.Dec.{eqb}
 use Rattle.base.specs.Decides.{Decides}
 use Rattle.figures.specs.Groups.{total}
 use Rattle.figures.specs.Seen.{seenAs, seenOf, ReadOf}
+use Rattle.figures.specs.declared.Seen.the-variants.{Refused}
 use Rattle.cardinals.specs.Lexicon.{Lexicon}
 use Rattle.cardinals.specs.Cardinal.{cardinalWords, cardinalPhrase}
 use Rattle.cardinals.specs.Grammar.{Says}
 use Rattle.cardinals.proofs.Numbers.{says, said}
+
+-- what is promised of a sentence, and of bytes that are none, by any grammar
+pub found : (Says : Bool → ℕ → Type 0) (m : Bool) (gs : List ℕ) → Says m (total gs) → ReadOf Says (seenAs m) gs
+found Says true gs w = record { reads = λ e. w; refuses = λ e. absurd (omega arith) }
+found Says false gs w = record { reads = λ e. w; refuses = λ e. absurd (omega arith) }
+
+pub none : (Says : Bool → ℕ → Type 0) (gs : List ℕ) → ((m : Bool) (n : ℕ) → Says m n → ⊥) → ReadOf Says Refused gs
+none Says gs f = record { reads = λ e. absurd (omega arith); refuses = λ e. f }
 
 -- zero has no sign
 unsigned-zero : (L : Lexicon) (m : Bool) (n : ℕ) → cardinalPhrase L (cond (eqb n 0) false m) n ≡ cardinalPhrase L m n
@@ -31,11 +40,5 @@ module _ (L : Lexicon) (s : List ℕ) (m : Bool) (n : ℕ) (small : n < 1000 ^ L
   fails-says f {k} {l} w = let p = right k l w in f (rw (p .0, p .1) (said L w .1))
 
   pub read : (b z : Bool) (gs : List ℕ) → total gs ≡ n → z ≡ eqb n 0 → Decides b (cardinalPhrase L m n ≡ s) → ReadOf (Says L s) (seenOf b z m) gs
-  read true z gs g e d =
-      let w : Says L s (cond z false m) n = rw e (stands-says (d .holds refl)) in
-      let a = right (cond z false m) n w in
-      record {
-        reads = λ k l y. let u = right k l y in (ap seenAs (sym (a .0) ∙ u .0), g ∙ u .1);
-        refuses = λ f. absurd (f (cond z false m) n w);
-      }
-  read false z gs g e d = record { reads = λ k l y. absurd (fails-says (d .fails refl) y); refuses = λ f. refl }
+  read true z gs g e d = found (Says L s) (cond z false m) gs (rw (g, e) (stands-says (d .holds refl)))
+  read false z gs g e d = none (Says L s) gs (λ k l. fails-says (d .fails refl))

@@ -1,18 +1,14 @@
--- Demand 3: of any kind with a guess that is right wherever bytes are a sentence; so of the kinds whose values are number texts, by their grammars; so
--- of cardinals in any language.
+-- What demand 3 needs of the kinds whose values are number texts, by their grammars; so of cardinals in any language.
 -- Assumes nothing.
 use Prim.Native.Nat.{ℕ, _*_, _^_, _≤_, _<_}
-use mathlib.Core.Path.{_≡_, refl, sym, _∙_, subst}
-use mathlib.Core.Bool.{Bool, true, false, not}
+use mathlib.Core.Path.{_≡_, refl, sym, _∙_}
+use mathlib.Core.Bool.{Bool, false, not}
 use mathlib.Core.List.{List}
-use native.Mathlib.Decide.{ℕ-discrete}
 use native.Mathlib.Nat.{lt-of-lt-of-le, pow-le-pow-right}
 use native.Mathlib.Omega.{arith}
 use lib.Dec.{ltb}
 use lib.ListN.{length}
-use Rattle.base.specs.Claim.{Readable}
-use Rattle.base.specs.Same.{sameText}
-use Rattle.base.proofs.Same.{same-is, same-not}
+use Rattle.base.proofs.Closing.{Readable}
 use Rattle.figures.specs.Text.{value, negative, unsigned, wellFormed}
 use Rattle.figures.specs.Judging.{judged}
 use Rattle.figures.specs.Value.{NumberMeans}
@@ -26,36 +22,6 @@ use Rattle.cardinals.specs.Lexicon.{Lexicon}
 use Rattle.cardinals.specs.Cardinal.{cardinalPhrase}
 use Rattle.cardinals.specs.Grammar.{Says}
 use Rattle.cardinals.proofs.Numbers.{says, said}
-
--- a kind whose phrases have their texts as values, and whose values are spelled as their sentences
-module _ (Admitted : List ℕ → Type 0) (phrase : List ℕ → List ℕ) (Means : List ℕ → List ℕ → Type 0) (admitted : (t : List ℕ) → Dec (Admitted t))
-    (spelled : (t : List ℕ) → Admitted t → Means (phrase t) t) (means : (s t : List ℕ) → Means s t → Admitted t × (phrase t ≡ s)) where
-  -- of any text it is decided whether it is the value of some bytes
-  pub means-decided : (s t : List ℕ) → Dec (Means s t)
-  means-decided s t = go (admitted t) (sameText (phrase t) s) refl
-    where
-      go : Dec (Admitted t) → (b : Bool) → sameText (phrase t) s ≡ b → Dec (Means s t)
-      go (no f) b e = no (λ m. f (means s t m .0))
-      go (yes a) false e = no (λ m. same-not (phrase t) s e (means s t m .1))
-      go (yes a) true e = yes (subst (λ (x : List ℕ). Means x t) (same-is (phrase t) s e) (spelled t a))
-
-  -- where no phrase has two values, no two texts have one phrase
-  pub inverse : ((s t u : List ℕ) → Means s t → Means s u → t ≡ u) → ((s : List ℕ) → Dec ((t : List ℕ) × Means s t)) → Readable Admitted phrase Means
-  inverse one decided = record {
-    spelled = spelled;
-    respelled = means;
-    oneText = λ t u a b e. one (phrase u) t u (subst (λ (s : List ℕ). Means s t) e (spelled t a)) (spelled u b);
-    oneValue = one;
-    decided = decided;
-  }
-
-  -- a guess that is the value of the bytes wherever they are a sentence
-  pub guessed : (guess : List ℕ → List ℕ) → ((s t : List ℕ) → Means s t → t ≡ guess s) → Readable Admitted phrase Means
-  guessed guess right = inverse (λ s t u p q. right s t p ∙ sym (right s u q)) (λ s. go s (means-decided s (guess s)))
-    where
-      go : (s : List ℕ) → Dec (Means s (guess s)) → Dec ((t : List ℕ) × Means s t)
-      go s (yes m) = yes (guess s, m)
-      go s (no f) = no (λ p. f (subst (Means s) (right s (p .0) (p .1)) (p .1)))
 
 -- a grammar of the numbers below 1000 to the orders, each with one phrase; some signs may be refused
 pub record OnePhrase (Says : List ℕ → Bool → ℕ → Type 0) (phrase : Bool → ℕ → List ℕ) (isRefused : Bool → Bool) (orders : ℕ) : Type 0 where
@@ -97,9 +63,14 @@ module _ {Says : List ℕ → Bool → ℕ → Type 0} {phrase : Bool → ℕ �
   pub readable : (sign : List ℕ → Bool) (number : List ℕ → ℕ) → ((s : List ℕ) (k : Bool) (l : ℕ) → Says s k l → (sign s ≡ k) × (number s ≡ l))
       → Readable (λ (t : List ℕ). judged (not (wellFormed t)) (isRefused (negative t)) (ltb (orders * 3) (length (unsigned t))) ≡ 0)
       (λ (t : List ℕ). phrase (negative t) (value (unsigned t))) (λ (s t : List ℕ). NumberMeans (Says s) t)
-  readable sign number right =
-      guessed AdmittedText textPhrase (λ s t. NumberMeans (Says s) t) (λ t. ℕ-discrete _ 0) spelled-means means-spelled (λ s. signedDecimal (sign s) (number s))
-      (λ s t m. let e = right s (m .minus) (m .magnitude) (m .says) in rw (e .0, e .1) (number-is (m .valued) (few-digits (m .says))))
+  readable sign number right = record {
+    spelled = spelled-means;
+    respelled = means-spelled;
+    oneValue = λ s t u p q. guessed s t p ∙ sym (guessed s u q);
+  }
+    where
+      guessed : (s t : List ℕ) → NumberMeans (Says s) t → t ≡ signedDecimal (sign s) (number s)
+      guessed s t m = let e = right s (m .minus) (m .magnitude) (m .says) in rw (e .0, e .1) (number-is (m .valued) (few-digits (m .says)))
 
 -- cardinals, of which no sign is refused
 pub cardinals : (L : Lexicon) → OnePhrase (Says L) (cardinalPhrase L) (λ m. false) (L .orders)

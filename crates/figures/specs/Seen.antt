@@ -16,6 +16,12 @@ seenNumber Refused = noSentence
 seenNumber Plain = 0
 seenNumber Negative = 0
 
+-- whether the sentence that it finds is negative
+abbrev pub seenSign : Seen → Bool
+seenSign Refused = false
+seenSign Plain = false
+seenSign Negative = true
+
 -- the answer to a sentence with this sign
 abbrev pub seenAs : Bool → Seen
 seenAs true = Negative
@@ -25,9 +31,7 @@ seenAs false = Plain
 abbrev pub seenOf : Bool → Bool → Bool → Seen
 seenOf stands zero minus = cond stands (seenAs (cond zero false minus)) Refused
 
--- the answer r, with the groups gs, is right
+-- the answer r, with the groups gs, is right: 0 where the bytes are a sentence with that sign and the groups' number, 6 where they are none
 pub record ReadOf (Says : Bool → ℕ → Type 0) (r : Seen) (gs : List ℕ) : Type 0 where
-  -- a sentence is read with its sign and its groups
-  pub reads : (minus : Bool) (n : ℕ) → Says minus n → (r ≡ seenAs minus) × (total gs ≡ n)
-  -- bytes that are none are refused
-  pub refuses : ((minus : Bool) (n : ℕ) → Says minus n → ⊥) → seenNumber r ≡ noSentence
+  pub reads : seenNumber r ≡ 0 → Says (seenSign r) (total gs)
+  pub refuses : seenNumber r ≡ noSentence → (minus : Bool) (n : ℕ) → Says minus n → ⊥

@@ -1,0 +1,97 @@
+-- The chain closed: what a kind's grammar and phrases have in common, the reading call's contract and the definitions of both calls give demand 3.
+-- Assumes nothing.
+use Prim.Native.Nat.{ℕ, zero, suc, _≤_, _<_}
+use mathlib.Core.Path.{_≡_, refl, sym, _∙_, ap, subst}
+use mathlib.Core.Bool.{Bool, true, false, cond}
+use mathlib.Core.Logic.{_⊎_, inl, inr}
+use mathlib.Core.List.{List}
+use native.Mathlib.Omega.{arith}
+use borrow.Author.Tests.{ltb-true, ltb-false, le-ltb}
+use lib.Dec.{ltb}
+use lib.ListN.{length}
+use Rattle.base.specs.Answer.{noSentence, noRoom, Spelling, Reply, refused, bytes, fitted, unless, replied, Answers}
+use Rattle.base.specs.Reading.{Reading, Replies, earlier, sentence, otherwise, Reads}
+use Rattle.base.specs.Claim.{AnswersText, Fits, Inverse}
+use Rattle.base.specs.declared.Answer.{Answer}
+
+-- of one kind: the phrase of every admitted text is a sentence with that text as its value; a sentence's value is admitted, and is spelled as that very
+-- sentence; no phrase has two values
+pub record Readable (IsAdmitted : List ℕ → Type 0) (phrase : List ℕ → List ℕ) (Means : List ℕ → List ℕ → Type 0) : Type 0 where
+  pub spelled : (t : List ℕ) → IsAdmitted t → Means (phrase t) t
+  pub respelled : (s t : List ℕ) → Means s t → IsAdmitted t × (phrase t ≡ s)
+  pub oneValue : (s t u : List ℕ) → Means s t → Means s u → t ≡ u
+
+-- bytes fit where there is room
+fits : (xs t : List ℕ) → length t ≤ length xs → fitted xs t ≡ bytes t
+fits xs t l = rw (le-ltb (length xs) (length t) l) refl
+
+-- what a reading call that refuses nothing before the phrase may answer
+data Known (from : Reading) (s : List ℕ) (r : Answer) (xs ys : List ℕ) : Type 0 where
+  text : (t : List ℕ) → Fits from s xs t → AnswersText r xs ys t → Known from s r xs ys
+  short : (t : List ℕ) → from .Means s t → length xs < length t → Answers r xs ys (refused noRoom (length t)) → Known from s r xs ys
+  none : ((t : List ℕ) → from .Means s t → ⊥) → Answers r xs ys (refused noSentence 0) → Known from s r xs ys
+
+known : (from : Reading) (s : List ℕ) (r : Answer) (xs ys : List ℕ) → from .refusal ≡ 0 → Reads from s r xs ys → Known from s r xs ys
+known from s r xs ys valid p = go (p .replies) (p .answers)
+  where
+    fitting : (t : List ℕ) → from .Means s t → (b : Bool) → ltb (length xs) (length t) ≡ b → Answers r xs ys (cond b (refused noRoom (length t)) (bytes t)) → Known from s r xs ys
+    fitting t m true e a = short t m (ltb-true (length xs) (length t) e) a
+    fitting t m false e a = text t (m, omega (arith, ltb-false (length xs) (length t) e)) a
+
+    go : {reply : Reply} → Replies from s xs reply → Answers r xs ys reply → Known from s r xs ys
+    go (earlier f) a = absurd (f valid)
+    go (sentence z t m) a = fitting t m (ltb (length xs) (length t)) refl a
+    go (otherwise z f) a = none f a
+
+-- a spelling call that replies with bytes refuses nothing, and they are its phrase
+spoken : (n : ℕ) (zs p s : List ℕ) → unless n (fitted zs p) ≡ bytes s → (n ≡ 0) × (p ≡ s)
+spoken (suc n) zs p s e = absurd (clash e)
+  where
+    clash : refused (suc n) 0 ≡ bytes s → ⊥
+    clash e = let z : _≡_ {A = ℕ} 0 1 = cc in absurd (omega arith)
+spoken zero zs p s e = (refl, go (ltb (length zs) (length p)) e)
+  where
+    go : (b : Bool) → cond b (refused noRoom (length p)) (bytes p) ≡ bytes s → p ≡ s
+    go true e = let z : _≡_ {A = ℕ} 0 1 = cc in absurd (omega arith)
+    go false e = cc
+
+module _ {IsAdmitted : List ℕ → Type 0} {to : List ℕ → Spelling} {from : Reading} (valid : from .refusal ≡ 0)
+    (passes : (t : List ℕ) → IsAdmitted t → to t .refusal ≡ 0) (admits : (t : List ℕ) → to t .refusal ≡ 0 → IsAdmitted t)
+    (R : Readable IsAdmitted (λ (t : List ℕ). to t .phrase) (from .Means)) where
+  -- what is answered to a sentence
+  value : {s xs ys : List ℕ} {r : Answer} → Reads from s r xs ys → (t : List ℕ) → from .Means s t → Answers r xs ys (fitted xs t)
+  value {s} {xs} {ys} {r} p t m = go (p .replies) (p .answers)
+    where
+      go : {reply : Reply} → Replies from s xs reply → Answers r xs ys reply → Answers r xs ys (fitted xs t)
+      go (earlier f) a = absurd (f valid)
+      go (sentence z u n) a = subst (λ (v : List ℕ). Answers r xs ys (fitted xs v)) (R .oneValue s u t n m) a
+      go (otherwise z f) a = absurd (f t m)
+
+  text-is : {s xs ys : List ℕ} {r : Answer} → Known from s r xs ys → r .number ≡ 0 → (t : List ℕ) × Fits from s xs t × AnswersText r xs ys t
+  text-is (text t m a) z = (t, m, a)
+  text-is (short t m l a) z = absurd (omega (arith, z, a .reported))
+  text-is (none f a) z = absurd (omega (arith, z, a .reported))
+
+  otherwise-is : {s xs ys : List ℕ} {r : Answer} → Known from s r xs ys → (r .number ≡ 0 → ⊥)
+      → ((t : List ℕ) × from .Means s t × (length xs < length t) × Answers r xs ys (refused noRoom (length t))) ⊎ (((t : List ℕ) → from .Means s t → ⊥) × Answers r xs ys (refused noSentence 0))
+  otherwise-is (text t m a) z = absurd (z (a .reported))
+  otherwise-is (short t m l a) z = inl (t, m, l, a)
+  otherwise-is (none f a) z = inr (f, a)
+
+  respelled : (s t : List ℕ) → from .Means s t → (zs : List ℕ) → length s ≤ length zs → replied (to t) zs ≡ bytes s
+  respelled s t m zs l =
+      let p = R .respelled s t m in
+      rw (passes t (p .0), p .1) (fits zs s l)
+
+  pub closed : Inverse IsAdmitted to from
+  closed = record {
+    answered = λ {s} {xs} {ys} {r} p. text-is (known from s r xs ys valid p);
+    answers = λ {s} {xs} {ys} {r} p t m. subst (Answers r xs ys) (fits xs t (m .1)) (value p t (m .0));
+    otherwise = λ {s} {xs} {ys} {r} p. otherwise-is (known from s r xs ys valid p);
+    spelled = λ s t m. (R .respelled s t m .0, respelled s t m);
+    alone = λ s t u zs m e.
+        let p = spoken (to u .refusal) zs (to u .phrase) s e in
+        R .oneValue s u t (subst (λ (x : List ℕ). from .Means x u) (p .1) (R .spelled u (admits u (p .0)))) m;
+    sentence = λ t a. (passes t a, R .spelled t a);
+    read = λ t a p. value p t (R .spelled t a);
+  }
