@@ -1,8 +1,9 @@
--- The French calls: what spelling comes to, and what a phrase means (01, "French").
+-- The French calls: what spelling and reading come to (01, "French").
 -- Assumes nothing.
 use Prim.Native.Nat.{ℕ}
-use mathlib.Core.List.{List, _∷_}
+use mathlib.Core.List.{List, [], _∷_}
 use Rattle.base.specs.Answer.{Spelling, firstOf}
+use Rattle.base.specs.Reading.{Reading}
 use Rattle.settings.specs.Settings.{frenchRanges}
 use Rattle.settings.specs.Refused.{outOfRange}
 use Rattle.settings.specs.declared.Settings.{Settings}
@@ -26,10 +27,10 @@ frToCardinal S t = record {
 abbrev pub frToOrdinal : Settings → List ℕ → Spelling
 frToOrdinal S t = record { refusal = firstOf (outOfRange (frenchRanges S) ∷ ordinalRefusals frenchDigitLimit t); phrase = nthPhrase S (value (unsigned t)) }
 
--- the phrase s is a cardinal whose value is the number text t
-abbrev pub FrCardinalMeans : Settings → List ℕ → List ℕ → Type 0
-FrCardinalMeans S s t = NumberMeans (Says (french S) s) t
+-- the number text of a cardinal: the value of the phrase s is the text t
+abbrev pub frFromCardinal : Settings → Reading
+frFromCardinal S = record { refusal = firstOf (outOfRange (frenchRanges S) ∷ []); Means = λ (s t : List ℕ). NumberMeans (Says (french S) s) t }
 
--- the phrase s is an ordinal whose value is the number text t
-abbrev pub FrOrdinalMeans : Settings → List ℕ → List ℕ → Type 0
-FrOrdinalMeans S s t = NumberMeans (SaysNth S s) t
+-- and of an ordinal
+abbrev pub frFromOrdinal : Settings → Reading
+frFromOrdinal S = record { refusal = firstOf (outOfRange (frenchRanges S) ∷ []); Means = λ (s t : List ℕ). NumberMeans (SaysNth S s) t }

@@ -1,20 +1,18 @@
 // French cardinals and ordinals from bytes to bytes, both ways. No phrase has more than 12,320 bytes: the program keeps that much room for an answer.
 use base::Answer;
-use base::NO_SENTENCE;
 use base::WRONG_SETTING;
 use fr_plan::ORDERS;
 use fr_plan::PLAN;
 use settings::Settings;
 ghost use mathlib.Core.Path.{_≡_};
 ghost use mathlib.Core.Bool.{true};
-ghost use mathlib.Core.List.{[], _∷_};
 ghost use Prim.Native.Nat.{_≤_};
 ghost use lib.ListN.{length};
-ghost use Rattle.base.specs.Answer.{firstOf, fitted, replied, Answers, Reads, ReadsUnless};
+ghost use Rattle.base.specs.Answer.{fitted, replied, Answers};
+ghost use Rattle.base.specs.Reading.{Reads};
 ghost use Rattle.settings.specs.Settings.{frenchSettings, frenchRanges, Within};
-ghost use Rattle.settings.specs.Refused.{outOfRange};
 ghost use Rattle.figures.specs.Text.{wellFormed, unsigned};
-ghost use Rattle.fr_calls.specs.FrCalls.{frToCardinal, frToOrdinal, FrCardinalMeans, FrOrdinalMeans};
+ghost use Rattle.fr_calls.specs.FrCalls.{frToCardinal, frToOrdinal, frFromCardinal, frFromOrdinal};
 
 // The most digits that a number text has: three for each group.
 const DIGITS: usize = 102;
@@ -74,8 +72,8 @@ fn spell_ordinal(settings: Settings, text: &[u8], out: &mut [u8]) -> Answer
 
 // Any bytes, read as a cardinal.
 fn read_cardinal(settings: Settings, said: &[u8], out: &mut [u8]) -> Answer
-    requires { ⌜ Within (frenchRanges settings) ⌝ }
-    ensures { λ r. ⌜ Reads (FrCardinalMeans settings) (now (said .entry)) r (now (out .entry)) (now (out .exit)) ⌝ }
+    requires { ⌜ frFromCardinal settings .refusal ≡ 0 ⌝ }
+    ensures { λ r. ⌜ Reads (frFromCardinal settings) (now (said .entry)) r (now (out .entry)) (now (out .exit)) ⌝ }
 {
     let mut gs = [0u16; ORDERS];
     let read = fr_read::read_cardinal(settings, said, &mut gs);
@@ -84,16 +82,12 @@ fn read_cardinal(settings: Settings, said: &[u8], out: &mut [u8]) -> Answer
 
 // Any bytes, read as an ordinal.
 fn read_ordinal(settings: Settings, said: &[u8], out: &mut [u8]) -> Answer
-    requires { ⌜ Within (frenchRanges settings) ⌝ }
-    ensures { λ r. ⌜ Reads (FrOrdinalMeans settings) (now (said .entry)) r (now (out .entry)) (now (out .exit)) ⌝ }
+    requires { ⌜ frFromOrdinal settings .refusal ≡ 0 ⌝ }
+    ensures { λ r. ⌜ Reads (frFromOrdinal settings) (now (said .entry)) r (now (out .entry)) (now (out .exit)) ⌝ }
 {
     let mut gs = [0u16; ORDERS];
-    let nth = fr_read::read_ordinal(settings, said, &mut gs);
-    if nth.stands {
-        numerals::put_number(false, nth.orders, &gs, out)
-    } else {
-        base::refused(NO_SENTENCE)
-    }
+    let read = fr_read::read_ordinal(settings, said, &mut gs);
+    numerals::put_read(read, &gs, out)
 }
 
 // The cardinal of a number text.
@@ -130,7 +124,7 @@ pub fn from_cardinal(
     said: &[u8],
     out: &mut [u8],
 ) -> Answer
-    ensures { λ r. ⌜ ReadsUnless (firstOf (outOfRange (frenchRanges (frenchSettings feminine reformed region)) ∷ [])) (FrCardinalMeans (frenchSettings feminine reformed region)) (now (said .entry)) r (now (out .entry)) (now (out .exit)) ⌝ }
+    ensures { λ r. ⌜ Reads (frFromCardinal (frenchSettings feminine reformed region)) (now (said .entry)) r (now (out .entry)) (now (out .exit)) ⌝ }
 {
     if settings::is_french(feminine, reformed, region) {
         read_cardinal(settings::french(feminine, reformed, region), said, out)
@@ -147,7 +141,7 @@ pub fn from_ordinal(
     said: &[u8],
     out: &mut [u8],
 ) -> Answer
-    ensures { λ r. ⌜ ReadsUnless (firstOf (outOfRange (frenchRanges (frenchSettings feminine reformed region)) ∷ [])) (FrOrdinalMeans (frenchSettings feminine reformed region)) (now (said .entry)) r (now (out .entry)) (now (out .exit)) ⌝ }
+    ensures { λ r. ⌜ Reads (frFromOrdinal (frenchSettings feminine reformed region)) (now (said .entry)) r (now (out .entry)) (now (out .exit)) ⌝ }
 {
     if settings::is_french(feminine, reformed, region) {
         read_ordinal(settings::french(feminine, reformed, region), said, out)

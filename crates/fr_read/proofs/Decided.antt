@@ -23,7 +23,6 @@ use Rattle.fr.proofs.Ordinals.{says-nth, said-nth}
 use Rattle.fr_plan.specs.Groups34.{Groups34}
 use Rattle.fr_plan.proofs.Cases.{groups-hold}
 use Rattle.fr_read.specs.Reading.{meanings, isMinus, behindMinus, guessed}
-use Rattle.fr_read.specs.Promise.{ReadNth}
 use Rattle.fr_read.proofs.Guesses.{guess-cardinal, guess-ordinal}
 use Rattle.fr_read.proofs.Bounds.{guessed-groups}
 
@@ -63,9 +62,10 @@ module _ (S : Settings) (v : Within (frenchRanges S)) (s : List ℕ) where
     fails-nth : (nthPhrase S (total gs) ≡ s → ⊥) → {k : Bool} {l : ℕ} → SaysNth S s k l → ⊥
     fails-nth f {k} {l} w = f (ap (nthPhrase S) (right-nth k l w .1) ∙ said-nth S w .1)
 
-    pub read-nth : (b : Bool) → Decides b (nthPhrase S (total gs) ≡ s) → ReadNth S s b gs × Groups34 gs
-    read-nth b d = (go b d, are-groups gs _ e)
+    pub read-nth : (b z : Bool) → Decides b (nthPhrase S (total gs) ≡ s) → ReadOf (SaysNth S s) (seenOf b z false) gs × Groups34 gs
+    read-nth b z d = (go b z d, are-groups gs _ e)
       where
-        go : (b : Bool) → Decides b (nthPhrase S (total gs) ≡ s) → ReadNth S s b gs
-        go true d = record { reads = λ n y. (refl, right-nth false n y .1); refuses = λ f. absurd (f (total gs) (stands-nth (d .holds refl))) }
-        go false d = record { reads = λ n y. absurd (fails-nth (d .fails refl) y); refuses = λ f. refl }
+        go : (b z : Bool) → Decides b (nthPhrase S (total gs) ≡ s) → ReadOf (SaysNth S s) (seenOf b z false) gs
+        go true true d = guess.found (SaysNth S s) false gs (stands-nth (d .holds refl))
+        go true false d = guess.found (SaysNth S s) false gs (stands-nth (d .holds refl))
+        go false z d = guess.none (SaysNth S s) gs (λ k l. fails-nth (d .fails refl))

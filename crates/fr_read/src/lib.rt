@@ -17,10 +17,10 @@ ghost use Rattle.cardinals.specs.Cardinal.{cardinalPhrase};
 ghost use Rattle.cardinals.specs.Grammar.{Says};
 ghost use Rattle.fr.specs.Rules.{french};
 ghost use Rattle.fr.specs.Ordinal.{nthPhrase};
+ghost use Rattle.fr.specs.Grammar.{SaysNth};
 ghost use Rattle.groups.specs.Highest.{ZeroFrom, Highest};
 ghost use Rattle.fr_plan.specs.Groups34.{Groups34};
 ghost use Rattle.fr_read.specs.Reading.{meanings, grow as growOf, times as timesOf, atLeastOne, guess as guessOf, seems, groupsRead, isMinus, behindMinus, guessed};
-ghost use Rattle.fr_read.specs.Promise.{ReadNth};
 
 // The meaning of the minus word, and those of the scale words: an order above this.
 const MINUS: u16 = 2001;
@@ -42,12 +42,6 @@ pub struct Group {
     pub value: u16,
     pub order: usize,
     pub next: usize,
-}
-
-// What the reader of ordinals found: whether the bytes are one, and how many orders the groups have that it stored.
-pub struct Nth {
-    pub stands: bool,
-    pub orders: usize,
 }
 
 // The last two digits of a sum.
@@ -246,13 +240,14 @@ pub fn read_cardinal(settings: Settings, s: &[u8], out: &mut [u16; ORDERS]) -> R
     Read { seen, orders: n }
 }
 
-// Any bytes as an ordinal under these settings: whether they are one by the grammar, with the groups in out.
-pub fn read_ordinal(settings: Settings, s: &[u8], out: &mut [u16; ORDERS]) -> Nth
+// Any bytes as an ordinal under these settings: what they are by the grammar, with the groups in out.
+pub fn read_ordinal(settings: Settings, s: &[u8], out: &mut [u16; ORDERS]) -> Read
     requires { ⌜ Within (frenchRanges settings) × (length (now out) ≡ 34) ⌝ }
-    ensures { λ r. ⌜ ReadNth settings (now (s .entry)) (r .stands) (now (out .exit)) × Groups34 (now (out .exit)) × Highest (now (out .exit)) (r .orders) ⌝ }
+    ensures { λ r. ⌜ ReadOf (SaysNth settings (now (s .entry))) (r .seen) (now (out .exit)) × Groups34 (now (out .exit)) × Highest (now (out .exit)) (r .orders) ⌝ }
 {
     let m = guess(s, out);
     let n = groups::top(m, out);
     let stands = is_ordinal(settings, n, out, s);
-    Nth { stands, orders: n }
+    let seen = figures::seen_of(stands, n == 0, false);
+    Read { seen, orders: n }
 }

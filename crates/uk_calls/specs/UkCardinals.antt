@@ -1,8 +1,9 @@
--- The two calls of Ukrainian cardinals (01, "Ukrainian cardinals"): what spelling comes to, and what a phrase means.
+-- The two calls of Ukrainian cardinals (01, "Ukrainian cardinals"): what spelling and reading come to.
 -- Assumes nothing.
 use Prim.Native.Nat.{ℕ}
-use mathlib.Core.List.{List, _∷_}
+use mathlib.Core.List.{List, [], _∷_}
 use Rattle.base.specs.Answer.{Spelling, firstOf}
+use Rattle.base.specs.Reading.{Reading}
 use Rattle.settings.specs.Settings.{ukrainianRanges}
 use Rattle.settings.specs.Refused.{outOfRange}
 use Rattle.settings.specs.declared.Settings.{Settings}
@@ -20,6 +21,6 @@ ukToCardinal S t = record {
   phrase = cardinalPhrase (ukrainian S) (negative t) (value (unsigned t));
 }
 
--- the phrase s is a cardinal whose value is the number text t
-abbrev pub UkCardinalMeans : Settings → List ℕ → List ℕ → Type 0
-UkCardinalMeans S s t = NumberMeans (Says (ukrainian S) s) t
+-- the number text of a cardinal: the value of the phrase s is the text t
+abbrev pub ukFromCardinal : Settings → Reading
+ukFromCardinal S = record { refusal = firstOf (outOfRange (ukrainianRanges S) ∷ []); Means = λ (s t : List ℕ). NumberMeans (Says (ukrainian S) s) t }

@@ -7,14 +7,13 @@ use uk::ORDERS;
 use uk_plan::PLAN;
 ghost use mathlib.Core.Path.{_≡_};
 ghost use mathlib.Core.Bool.{true};
-ghost use mathlib.Core.List.{[], _∷_};
 ghost use Prim.Native.Nat.{_≤_};
 ghost use lib.ListN.{length};
-ghost use Rattle.base.specs.Answer.{firstOf, fitted, replied, Answers, Reads as ReadsAs, ReadsUnless};
+ghost use Rattle.base.specs.Answer.{fitted, replied, Answers};
+ghost use Rattle.base.specs.Reading.{Reads as ReadsAs};
 ghost use Rattle.settings.specs.Settings.{ukrainianSettings, ukrainianRanges, Within};
-ghost use Rattle.settings.specs.Refused.{outOfRange};
 ghost use Rattle.figures.specs.Text.{wellFormed, unsigned};
-ghost use Rattle.uk_calls.specs.UkCardinals.{ukToCardinal, UkCardinalMeans};
+ghost use Rattle.uk_calls.specs.UkCardinals.{ukToCardinal, ukFromCardinal};
 
 // The refusals of a spelling call but 7, or 0.
 fn refuse(gender: u32, number: u32, case: u32, text: &[u8]) -> u32
@@ -44,8 +43,8 @@ fn spell(settings: Settings, text: &[u8], out: &mut [u8]) -> Answer
 
 // Any bytes, read under settings in their ranges.
 fn read(settings: Settings, said: &[u8], out: &mut [u8]) -> Answer
-    requires { ⌜ Within (ukrainianRanges settings) ⌝ }
-    ensures { λ r. ⌜ ReadsAs (UkCardinalMeans settings) (now (said .entry)) r (now (out .entry)) (now (out .exit)) ⌝ }
+    requires { ⌜ ukFromCardinal settings .refusal ≡ 0 ⌝ }
+    ensures { λ r. ⌜ ReadsAs (ukFromCardinal settings) (now (said .entry)) r (now (out .entry)) (now (out .exit)) ⌝ }
 {
     let mut gs = [0u16; ORDERS];
     let read = uk_read::read_cardinal(settings, said, &mut gs);
@@ -67,7 +66,7 @@ pub fn to_cardinal(gender: u32, number: u32, case: u32, text: &[u8], out: &mut [
 
 // The number text of a cardinal.
 pub fn from_cardinal(gender: u32, number: u32, case: u32, said: &[u8], out: &mut [u8]) -> Answer
-    ensures { λ r. ⌜ ReadsUnless (firstOf (outOfRange (ukrainianRanges (ukrainianSettings gender number case)) ∷ [])) (UkCardinalMeans (ukrainianSettings gender number case)) (now (said .entry)) r (now (out .entry)) (now (out .exit)) ⌝ }
+    ensures { λ r. ⌜ ReadsAs (ukFromCardinal (ukrainianSettings gender number case)) (now (said .entry)) r (now (out .entry)) (now (out .exit)) ⌝ }
 {
     if settings::is_ukrainian(gender, number, case) {
         read(settings::ukrainian(gender, number, case), said, out)

@@ -1,9 +1,10 @@
--- The two calls of Ukrainian money (01, "Ukrainian money"): what spelling comes to, and what a phrase means.
+-- The two calls of Ukrainian money (01, "Ukrainian money"): what spelling and reading come to.
 -- Assumes nothing.
 use Prim.Native.Nat.{ℕ}
 use mathlib.Core.List.{List, [], _∷_}
 use mathlib.Core.Option.{Option, none, some}
 use Rattle.base.specs.Answer.{Spelling, firstOf}
+use Rattle.base.specs.Reading.{Reading}
 use Rattle.settings.specs.Settings.{ukrainianRanges}
 use Rattle.settings.specs.Refused.{outOfRange}
 use Rattle.settings.specs.declared.Settings.{Settings}
@@ -31,3 +32,11 @@ ukToCurrency S code t = record {
 abbrev pub MoneyMeans : Settings → Option Currency → List ℕ → List ℕ → Type 0
 MoneyMeans S none s t = ⊥
 MoneyMeans S (some c) s t = AmountMeans (SaysMoney S c s) t
+
+-- the money text of an amount in a currency, if there is one
+abbrev pub amountReading : Settings → Option Currency → Reading
+amountReading S c = record { refusal = firstOf (outOfRange (ukrainianRanges S) ∷ unknown c ∷ []); Means = MoneyMeans S c }
+
+-- the money text of an amount in the currency of a code
+abbrev pub ukFromCurrency : Settings → List ℕ → Reading
+ukFromCurrency S code = amountReading S (currencyOf code)

@@ -8,20 +8,18 @@ use settings::Settings;
 use uk::ORDERS;
 use uk_money::CURRENCIES;
 use uk_money_plan::PLAN;
-use uk_money_read::Reading;
+use uk_money_read::SeenAmount;
 ghost use Prim.Native.Nat.{_≤_, _<_};
-ghost use mathlib.Core.List.{[], _∷_};
-ghost use Rattle.base.specs.Answer.{firstOf, fitted, replied, Answers, Reads as ReadsAs, ReadsUnless};
+ghost use mathlib.Core.Path.{_≡_};
+ghost use mathlib.Core.Option.{some};
+ghost use Rattle.base.specs.Answer.{fitted, replied, Answers};
+ghost use Rattle.base.specs.Reading.{Reads as ReadsAs};
 ghost use Rattle.settings.specs.Settings.{ukrainianSettings, ukrainianRanges, Within};
-ghost use Rattle.settings.specs.Refused.{outOfRange};
 ghost use Rattle.figures.specs.Money.{wholeOf, hundredthsOf};
 ghost use Rattle.figures.specs.Refusals.{amountRefusals, Admitted};
-ghost use Rattle.figures.specs.Value.{AmountMeans};
 ghost use Rattle.uk_money.specs.Rows.{currencyAt};
-ghost use Rattle.uk_money.specs.Codes.{currencyOf, unknown};
 ghost use Rattle.uk_money.specs.Money.{amountPhrase};
-ghost use Rattle.uk_money.specs.MoneyGrammar.{SaysMoney};
-ghost use Rattle.uk_money_calls.specs.MoneyCalls.{ukToCurrency, MoneyMeans};
+ghost use Rattle.uk_money_calls.specs.MoneyCalls.{ukToCurrency, amountReading, ukFromCurrency};
 
 // The phrase of an admitted text: planned, measured, written.
 fn spell(settings: Settings, currency: usize, text: &[u8], out: &mut [u8]) -> Answer
@@ -42,15 +40,15 @@ fn spell(settings: Settings, currency: usize, text: &[u8], out: &mut [u8]) -> An
 
 // Any bytes, read under settings in their ranges for a currency.
 fn read(settings: Settings, currency: usize, said: &[u8], out: &mut [u8]) -> Answer
-    requires { ⌜ Within (ukrainianRanges settings) × (currency < 44) ⌝ }
-    ensures { λ r. ⌜ ReadsAs (λ s. AmountMeans (SaysMoney settings (currencyAt currency) s)) (now (said .entry)) r (now (out .entry)) (now (out .exit)) ⌝ }
+    requires { ⌜ (amountReading settings (some (currencyAt currency)) .refusal ≡ 0) × (currency < 44) ⌝ }
+    ensures { λ r. ⌜ ReadsAs (amountReading settings (some (currencyAt currency))) (now (said .entry)) r (now (out .entry)) (now (out .exit)) ⌝ }
 {
     let mut gs = [0u16; ORDERS];
-    let outcome = uk_money_read::read_money(settings, currency, said, &mut gs);
-    let reading = outcome.reading;
-    match reading {
-        Reading::Refused => base::refused(NO_SENTENCE),
-        Reading::Amount(h) => numerals::money::put_money_text(outcome.orders, &gs, h, out),
+    let read = uk_money_read::read_money(settings, currency, said, &mut gs);
+    let seen = read.seen;
+    match seen {
+        SeenAmount::Refused => base::refused(NO_SENTENCE),
+        SeenAmount::Amount(h) => numerals::money::put_money_text(read.orders, &gs, h, out),
     }
 }
 
@@ -90,7 +88,7 @@ pub fn from_currency(
     said: &[u8],
     out: &mut [u8],
 ) -> Answer
-    ensures { λ r. ⌜ ReadsUnless (firstOf (outOfRange (ukrainianRanges (ukrainianSettings gender number case)) ∷ unknown (currencyOf (now (code .entry))) ∷ [])) (MoneyMeans (ukrainianSettings gender number case) (currencyOf (now (code .entry)))) (now (said .entry)) r (now (out .entry)) (now (out .exit)) ⌝ }
+    ensures { λ r. ⌜ ReadsAs (ukFromCurrency (ukrainianSettings gender number case) (now (code .entry))) (now (said .entry)) r (now (out .entry)) (now (out .exit)) ⌝ }
 {
     if settings::is_ukrainian(gender, number, case) {
         let currency = uk_money::code_of(code);

@@ -1,7 +1,7 @@
 -- The reader's promise in each of its answers.
 -- Assumes nothing.
 use Prim.Native.Nat.{ℕ, _+_, _<_}
-use mathlib.Core.Path.{_≡_, refl, sym, _∙_, ap, subst}
+use mathlib.Core.Path.{_≡_, sym, _∙_, ap, subst}
 use mathlib.Core.List.{List}
 use native.Mathlib.Omega.{arith}
 use lib.ListN.{length, getD, drop}
@@ -19,9 +19,9 @@ use Rattle.uk_money.specs.Rows.{currencyAt}
 use Rattle.uk_money.proofs.Amounts.{amount-says, amount-said}
 use Rattle.uk_money_read.specs.Behind.{behind}
 use Rattle.uk_money_read.specs.Promise.{ReadMoney}
-use Rattle.uk_money_read.specs.declared.Reading.the-variants.{Refused, Amount}
+use Rattle.uk_money_read.specs.declared.SeenAmount.the-variants.{Refused, Amount}
 use Rattle.uk_money_read.proofs.Found.{Stated}
-use Rattle.uk_money_read.proofs.Made.{says-once, Guessed, plainly, alone, guessed}
+use Rattle.uk_money_read.proofs.Made.{Guessed, plainly, alone, guessed}
 
 -- the hundredths, from the number words behind the first nouns
 pub behind-nouns : (s : List ℕ) (n m h : ℕ) → split (drop n s) ≡ left 22 (split s) → split (drop m (from n s)) ≡ behind (split (from n s))
@@ -41,13 +41,7 @@ module _ (S : Settings) (w : Within (ukrainianRanges S)) (i : ℕ) (hi : i < 44)
   says {n} {h} p = subst (λ (t : List ℕ). SaysMoney S (currencyAt i) t n h) (p .2) (amount-says S (currencyAt i) n h (p .0) (p .1))
 
   pub found : (gs : List ℕ) → length gs ≡ 22 → Groups gs → (h : ℕ) → Tested (total gs) h → ReadMoney S (currencyAt i) s (Amount h) gs
-  found gs z g h p = record {
-    reads = λ n k q. let e = says-once S w i hi s (says p) q in (ap Amount (e .1), e .0);
-    refuses = λ no. absurd (no (total gs) h (says p));
-    size = z;
-    groups = g;
-    hundredths = λ k e. let q : h ≡ k = cc in omega (arith, p .1);
-  }
+  found gs z g h p = record { reads = λ e. says p; refuses = λ e. absurd (omega arith); size = z; groups = g; hundredths = p .1 }
 
   -- neither the amount that was made of the bytes nor the hundredths alone
   module _ (gs zs : List ℕ) (y : length zs ≡ 22) (f : Groups zs) (e : total zs ≡ 0) (eg : gs ≡ sums 22 (split s))
@@ -57,10 +51,4 @@ module _ (S : Settings) (w : Within (ukrainianRanges S)) (i : ℕ) (hi : i < 44)
     refuted p (alone q) = b (rw (e, ap (λ (l : List ℕ). getD l 0 0) eg ∙ q) (amount-said S (currencyAt i) p))
 
     pub refused : ReadMoney S (currencyAt i) s Refused zs
-    refused = record {
-      reads = λ n k p. absurd (refuted p (guessed S w i hi s p));
-      refuses = λ no. refl;
-      size = y;
-      groups = f;
-      hundredths = λ k q. let z : _≡_ {A = ℕ} 0 1 = cc in absurd (omega arith);
-    }
+    refused = record { reads = λ e. absurd (omega arith); refuses = λ e n k p. refuted p (guessed S w i hi s p); size = y; groups = f; hundredths = omega arith }

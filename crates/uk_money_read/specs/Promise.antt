@@ -10,21 +10,24 @@ use Rattle.settings.specs.declared.Settings.{Settings}
 use Rattle.uk.specs.Ukrainian.{ukrainianOrders}
 use Rattle.uk_money.specs.Currencies.{Currency}
 use Rattle.uk_money.specs.MoneyGrammar.{SaysMoney}
-use Rattle.uk_money_read.specs.declared.Reading.{Reading}
-use Rattle.uk_money_read.specs.declared.Reading.the-variants.{Refused, Amount}
+use Rattle.uk_money_read.specs.declared.SeenAmount.{SeenAmount}
+use Rattle.uk_money_read.specs.declared.SeenAmount.the-variants.{Refused, Amount}
 
--- 01's number of each answer; `Amount` has the hundredths
-abbrev pub readingNumber : Reading → ℕ
-readingNumber Refused = noSentence
-readingNumber (Amount h) = 0
+-- 01's number of each answer
+abbrev pub seenAmountNumber : SeenAmount → ℕ
+seenAmountNumber Refused = noSentence
+seenAmountNumber (Amount h) = 0
 
--- what the reader makes of the bytes s: its answer r, and the groups gs of the whole part
-pub record ReadMoney (S : Settings) (c : Currency) (s : List ℕ) (r : Reading) (gs : List ℕ) : Type 0 where
-  -- bytes that are an amount are read with the groups of its whole part and its hundredths
-  pub reads : (n h : ℕ) → SaysMoney S c s n h → (r ≡ Amount h) × (total gs ≡ n)
-  -- bytes that are none are refused
-  pub refuses : ((n h : ℕ) → SaysMoney S c s n h → ⊥) → readingNumber r ≡ noSentence
-  -- a group for each order, and groups and hundredths in their ranges
+-- the hundredths of the amount that it finds
+abbrev pub seenHundredths : SeenAmount → ℕ
+seenHundredths Refused = 0
+seenHundredths (Amount h) = h
+
+-- the answer r to the bytes s, with the groups gs, is right: 0 where they are an amount with the groups' number as its whole part and those hundredths,
+-- 6 where they are none; there is a group for each order, and all are in their ranges
+pub record ReadMoney (S : Settings) (c : Currency) (s : List ℕ) (r : SeenAmount) (gs : List ℕ) : Type 0 where
+  pub reads : seenAmountNumber r ≡ 0 → SaysMoney S c s (total gs) (seenHundredths r)
+  pub refuses : seenAmountNumber r ≡ noSentence → (n h : ℕ) → SaysMoney S c s n h → ⊥
   pub size : length gs ≡ ukrainianOrders
   pub groups : Groups gs
-  pub hundredths : (h : ℕ) → r ≡ Amount h → h < 100
+  pub hundredths : seenHundredths r < 100

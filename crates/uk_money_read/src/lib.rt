@@ -33,15 +33,15 @@ const LIMIT_LOW: u64 = 709551615;
 // The most hundredths.
 const MOST: u32 = 99;
 
-// What a phrase is: no amount, or one whose whole part's groups were read, with its hundredths.
-pub enum Reading {
+// What bytes are to the reader of money: no sentence, or an amount with these hundredths.
+pub enum SeenAmount {
     Refused,
     Amount(u32),
 }
 
-// What the reader found: what the phrase is, and how many orders the groups have that it stored.
-pub struct Outcome {
-    pub reading: Reading,
+// What the reader of money found: what the bytes are, and how many orders the groups have that it stored.
+pub struct ReadAmount {
+    pub seen: SeenAmount,
     pub orders: usize,
 }
 
@@ -137,9 +137,14 @@ fn is_amount(
 }
 
 // Any bytes, under these settings and for a currency: what they are by the grammar, with the groups of the whole part in out.
-pub fn read_money(settings: Settings, currency: usize, s: &[u8], out: &mut [u16; ORDERS]) -> Outcome
+pub fn read_money(
+    settings: Settings,
+    currency: usize,
+    s: &[u8],
+    out: &mut [u16; ORDERS],
+) -> ReadAmount
     requires { ⌜ Within (ukrainianRanges settings) × (currency < 44) × (now out ≡ replicate 22 0) ⌝ }
-    ensures { λ r. ⌜ ReadMoney settings (currencyAt currency) (now (s .entry)) (r .reading) (now (out .exit)) ⌝ }
+    ensures { λ r. ⌜ ReadMoney settings (currencyAt currency) (now (s .entry)) (r .seen) (now (out .exit)) ⌝ }
     ensures { λ r. ⌜ Highest (now (out .exit)) (r .orders) ⌝ }
 {
     let span = uk_read::groups(ORDERS, s, out);
@@ -149,21 +154,21 @@ pub fn read_money(settings: Settings, currency: usize, s: &[u8], out: &mut [u16;
     let at = k + m;
     let h = lowest(&s[at..]);
     if is_amount(settings, currency, n, out, h, s) {
-        return Outcome {
-            reading: Reading::Amount(h),
+        return ReadAmount {
+            seen: SeenAmount::Amount(h),
             orders: n,
         };
     }
     let alone = out[0] as u32;
     *out = [0u16; ORDERS];
     if is_amount(settings, currency, 0, out, alone, s) {
-        return Outcome {
-            reading: Reading::Amount(alone),
+        return ReadAmount {
+            seen: SeenAmount::Amount(alone),
             orders: 0,
         };
     }
-    Outcome {
-        reading: Reading::Refused,
+    ReadAmount {
+        seen: SeenAmount::Refused,
         orders: 0,
     }
 }

@@ -1,15 +1,13 @@
 // The calls for a host in C. Each hands on to the crate of its kind. The contracts say all that a host may rely on, and have no `requires`: of the
 // host it is asked only, as of any caller in Rattle, that out does not overlap what is read (include/yokepear.h).
 use base::Answer;
-ghost use mathlib.Core.List.{[], _∷_};
-ghost use Rattle.base.specs.Answer.{firstOf, replied, Answers, ReadsUnless};
-ghost use Rattle.settings.specs.Settings.{ukrainianSettings, frenchSettings, ukrainianRanges, frenchRanges};
-ghost use Rattle.settings.specs.Refused.{outOfRange};
-ghost use Rattle.uk_calls.specs.UkCardinals.{ukToCardinal, UkCardinalMeans};
+ghost use Rattle.base.specs.Answer.{replied, Answers};
+ghost use Rattle.base.specs.Reading.{Reads};
+ghost use Rattle.settings.specs.Settings.{ukrainianSettings, frenchSettings};
+ghost use Rattle.uk_calls.specs.UkCardinals.{ukToCardinal, ukFromCardinal};
 ghost use Rattle.uk_ordinal_calls.specs.UkOrdinals.{ukToOrdinal, ukToOrdinalNum, ukToYear};
-ghost use Rattle.uk_money.specs.Codes.{currencyOf, unknown};
-ghost use Rattle.uk_money_calls.specs.MoneyCalls.{ukToCurrency, MoneyMeans};
-ghost use Rattle.fr_calls.specs.FrCalls.{frToCardinal, frToOrdinal, FrCardinalMeans, FrOrdinalMeans};
+ghost use Rattle.uk_money_calls.specs.MoneyCalls.{ukToCurrency, ukFromCurrency};
+ghost use Rattle.fr_calls.specs.FrCalls.{frToCardinal, frToOrdinal, frFromCardinal, frFromOrdinal};
 
 // The cardinal of a number text.
 #[no_mangle]
@@ -34,7 +32,7 @@ pub extern "C" fn yokepear_uk_from_cardinal(
     phrase: &[u8],
     out: &mut [u8],
 ) -> Answer
-    ensures { λ r. ⌜ ReadsUnless (firstOf (outOfRange (ukrainianRanges (ukrainianSettings gender number case)) ∷ [])) (UkCardinalMeans (ukrainianSettings gender number case)) (now (phrase .entry)) r (now (out .entry)) (now (out .exit)) ⌝ }
+    ensures { λ r. ⌜ Reads (ukFromCardinal (ukrainianSettings gender number case)) (now (phrase .entry)) r (now (out .entry)) (now (out .exit)) ⌝ }
 {
     uk_calls::from_cardinal(gender, number, case, phrase, out)
 }
@@ -106,7 +104,7 @@ pub extern "C" fn yokepear_uk_from_currency(
     phrase: &[u8],
     out: &mut [u8],
 ) -> Answer
-    ensures { λ r. ⌜ ReadsUnless (firstOf (outOfRange (ukrainianRanges (ukrainianSettings gender number case)) ∷ unknown (currencyOf (now (code .entry))) ∷ [])) (MoneyMeans (ukrainianSettings gender number case) (currencyOf (now (code .entry)))) (now (phrase .entry)) r (now (out .entry)) (now (out .exit)) ⌝ }
+    ensures { λ r. ⌜ Reads (ukFromCurrency (ukrainianSettings gender number case) (now (code .entry))) (now (phrase .entry)) r (now (out .entry)) (now (out .exit)) ⌝ }
 {
     uk_money_calls::from_currency(gender, number, case, code, phrase, out)
 }
@@ -148,7 +146,7 @@ pub extern "C" fn yokepear_fr_from_cardinal(
     phrase: &[u8],
     out: &mut [u8],
 ) -> Answer
-    ensures { λ r. ⌜ ReadsUnless (firstOf (outOfRange (frenchRanges (frenchSettings feminine reformed region)) ∷ [])) (FrCardinalMeans (frenchSettings feminine reformed region)) (now (phrase .entry)) r (now (out .entry)) (now (out .exit)) ⌝ }
+    ensures { λ r. ⌜ Reads (frFromCardinal (frenchSettings feminine reformed region)) (now (phrase .entry)) r (now (out .entry)) (now (out .exit)) ⌝ }
 {
     fr_calls::from_cardinal(feminine, reformed, region, phrase, out)
 }
@@ -162,7 +160,7 @@ pub extern "C" fn yokepear_fr_from_ordinal(
     phrase: &[u8],
     out: &mut [u8],
 ) -> Answer
-    ensures { λ r. ⌜ ReadsUnless (firstOf (outOfRange (frenchRanges (frenchSettings feminine reformed region)) ∷ [])) (FrOrdinalMeans (frenchSettings feminine reformed region)) (now (phrase .entry)) r (now (out .entry)) (now (out .exit)) ⌝ }
+    ensures { λ r. ⌜ Reads (frFromOrdinal (frenchSettings feminine reformed region)) (now (phrase .entry)) r (now (out .entry)) (now (out .exit)) ⌝ }
 {
     fr_calls::from_ordinal(feminine, reformed, region, phrase, out)
 }
