@@ -1,9 +1,10 @@
 -- Answers against the replies that calls define.
 -- Assumes nothing.
 use Prim.Native.Nat.{ℕ, zero, suc}
-use mathlib.Core.Path.{_≡_, refl}
+use mathlib.Core.Path.{_≡_, refl, sym, _∙_}
 use mathlib.Core.List.{List}
 use Rattle.base.specs.Answer.{Reply, refused, fitted, unless, Answers}
+use Rattle.base.specs.Reading.{Reading, earlier, Reads}
 use Rattle.base.specs.declared.Answer.{Answer}
 
 -- a refusal
@@ -22,3 +23,7 @@ said r xs ys b m e a = rw e a
 -- the same bytes
 pub heard : (r : Answer) (xs ys : List ℕ) {b c : List ℕ} → b ≡ c → Answers r xs ys (fitted xs b) → Answers r xs ys (fitted xs c)
 heard r xs ys e a = rw (← e) a
+
+-- a reading call's refusal that comes before the phrase's
+pub refuses-first : (R : Reading) (s : List ℕ) (r : Answer) (xs : List ℕ) (n : ℕ) → (r .number ≡ n) × (r .length ≡ 0) → R .refusal ≡ n → (n ≡ 0 → ⊥) → Reads R s r xs xs
+refuses-first R s r xs n a e z = record { reply = refused (R .refusal) 0; replies = earlier (λ f. z (sym e ∙ f)); answers = refuses (a .0 ∙ sym e, a .1) }

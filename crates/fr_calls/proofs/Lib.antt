@@ -1,2 +1,1 @@
 pub mod Theorems
-pub mod Answers

@@ -1,16 +1,18 @@
--- Demand 3 for French cardinals and ordinals, over the definitions: `cardinals` and `ordinals` below, under any settings in their ranges.
+-- Demand 3 for French cardinals and ordinals, over the calls' definitions.
 -- Assumes nothing.
 use Prim.Native.Nat.{ℕ}
-use mathlib.Core.Path.{refl, sym}
+use mathlib.Core.Path.{_≡_, refl, sym, _∙_}
 use mathlib.Core.Bool.{false}
 use mathlib.Core.List.{List}
 use native.Mathlib.Omega.{arith}
 use Rattle.tables.proofs.Tests.{clash-of as clash}
-use Rattle.base.specs.Claim.{Readable}
-use Rattle.settings.specs.Settings.{frenchRanges, Within}
+use Rattle.base.specs.Claim.{Inverse}
+use Rattle.base.proofs.Closing.{closed}
+use Rattle.settings.specs.Settings.{frenchRanges}
 use Rattle.settings.specs.declared.Settings.{Settings}
+use Rattle.settings.proofs.Ranges.{in-range, behind-settings}
 use Rattle.figures.specs.Groups.{total}
-use Rattle.figures.specs.Refusals.{cardinalRefusals, ordinalRefusals, Admitted}
+use Rattle.figures.specs.Refusals.{frenchDigitLimit, cardinalRefusals, ordinalRefusals, Admitted}
 use Rattle.cardinals.specs.Grammar.{Says}
 use Rattle.cardinals.proofs.Numbers.{said}
 use Rattle.cardinals.proofs.Inverse as inverse
@@ -21,7 +23,7 @@ use Rattle.fr.specs.Grammar.{SaysNth}
 use Rattle.fr.proofs.Ordinals.{says-nth, said-nth}
 use Rattle.fr_read.specs.Reading.{meanings, isMinus, behindMinus, guessed}
 use Rattle.fr_read.proofs.Decided.{right, right-nth}
-use Rattle.fr_calls.specs.FrCalls.{frToCardinal, frToOrdinal, FrCardinalMeans, FrOrdinalMeans}
+use Rattle.fr_calls.specs.FrCalls.{frToCardinal, frToOrdinal, frFromCardinal, frFromOrdinal}
 
 module _ (S : Settings) where
   -- any sign of an ordinal is refused
@@ -40,12 +42,14 @@ module _ (S : Settings) where
   pub bounded-nth : (s : List ℕ) → Bounded (SaysNth S s)
   bounded-nth s = record { small = λ w. inverse.few-digits nths (omega arith) (omega arith) w; some = λ w. clash (sym (said-nth S w .2)) }
 
-  module _ (v : Within (frenchRanges S)) where
-    pub cardinals : Readable (λ t. Admitted (cardinalRefusals 102 t)) (λ t. frToCardinal S t .phrase) (FrCardinalMeans S)
-    unfolding french
-    cardinals =
-        inverse.readable (inverse.cardinals (french S)) (omega arith) (omega arith) (λ s. isMinus (meanings s)) (λ s. total (guessed (behindMinus (meanings s))))
-        (λ s. right S v s _ refl _ refl)
+  pub cardinals : frFromCardinal S .refusal ≡ 0 → Inverse (λ (t : List ℕ). Admitted (cardinalRefusals frenchDigitLimit t)) (frToCardinal S) (frFromCardinal S)
+  unfolding french
+  cardinals v =
+      closed v (λ t a. behind-settings (frenchRanges S) (cardinalRefusals frenchDigitLimit t) v ∙ a) (λ t a. sym (behind-settings (frenchRanges S) (cardinalRefusals frenchDigitLimit t) v) ∙ a)
+      (inverse.readable (inverse.cardinals (french S)) (omega arith) (omega arith) (λ s. isMinus (meanings s)) (λ s. total (guessed (behindMinus (meanings s))))
+      (λ s. right S (in-range (frenchRanges S) v) s _ refl _ refl))
 
-    pub ordinals : Readable (λ t. Admitted (ordinalRefusals 102 t)) (λ t. frToOrdinal S t .phrase) (FrOrdinalMeans S)
-    ordinals = inverse.readable nths (omega arith) (omega arith) (λ s. false) (λ s. total (guessed (meanings s))) (λ s. right-nth S v s _ refl)
+  pub ordinals : frFromOrdinal S .refusal ≡ 0 → Inverse (λ (t : List ℕ). Admitted (ordinalRefusals frenchDigitLimit t)) (frToOrdinal S) (frFromOrdinal S)
+  ordinals v =
+      closed v (λ t a. behind-settings (frenchRanges S) (ordinalRefusals frenchDigitLimit t) v ∙ a) (λ t a. sym (behind-settings (frenchRanges S) (ordinalRefusals frenchDigitLimit t) v) ∙ a)
+      (inverse.readable nths (omega arith) (omega arith) (λ s. false) (λ s. total (guessed (meanings s))) (λ s. right-nth S (in-range (frenchRanges S) v) s _ refl))

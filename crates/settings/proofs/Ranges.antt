@@ -29,3 +29,10 @@ unrefused {rs} {cs} e = go (within rs) refl e
     go : (b : Bool) → within rs ≡ b → cond (not b) 1 (firstOf cs) ≡ 0 → Unrefused rs cs
     go true t e = record { test = t; settings = within-holds rs t; others = e }
     go false t e = absurd (omega arith)
+
+-- a call that refuses no settings has them in their ranges, and refuses what the conditions behind them do
+pub in-range : (rs : List (ℕ × ℕ)) → firstOf (outOfRange rs ∷ []) ≡ 0 → Within rs
+in-range rs e = unrefused {rs = rs} {cs = []} e .settings
+
+pub behind-settings : (rs : List (ℕ × ℕ)) (cs : List (Bool × ℕ)) → firstOf (outOfRange rs ∷ []) ≡ 0 → firstOf (outOfRange rs ∷ cs) ≡ firstOf cs
+behind-settings rs cs e = rw (unrefused {rs = rs} {cs = []} e .test) refl

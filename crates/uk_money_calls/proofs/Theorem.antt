@@ -58,36 +58,13 @@ module _ (S : Settings) (w : Within (ukrainianRanges S)) (i : ℕ) (hi : i < 44)
       let e = says-once S w i hi s (p .says) (q .says) in
       amount-is (p .valued) (amount-said S (currencyAt i) (p .says) .0) ∙ rw (e .0, e .1) (sym (amount-is (q .valued) (amount-said S (currencyAt i) (q .says) .0)))
 
-  -- of a text it is decided whether it is the value of some bytes; the reader tries two
-  decides : (s t : List ℕ) → Dec (Means s t)
-  decides = means-decided (λ t. Admitted (amountRefusals t)) (moneyPhrase S (some (currencyAt i))) Means (λ t. ℕ-discrete _ 0) (spelled-means S (currencyAt i)) (means-spelled S (currencyAt i))
+  one-readable : Readable (λ (t : List ℕ). Admitted (amountRefusals t)) (moneyPhrase S (some (currencyAt i))) Means
+  one-readable = record { spelled = spelled-means S (currencyAt i); respelled = means-spelled S (currencyAt i); oneValue = one-value }
 
-  decided : (s : List ℕ) → Dec ((t : List ℕ) × Means s t)
-  decided s = go (decides s first) (decides s second)
+-- of every code
+module _ (S : Settings) (code : List ℕ) where
+  pub money : ukFromCurrency S code .refusal ≡ 0 → Inverse (λ (t : List ℕ). Admitted (amountRefusals t)) (ukToCurrency S code) (ukFromCurrency S code)
+  money v = go (currencyOf code) refl v
     where
-      first : List ℕ
-      first = moneyDecimal (total (sums 22 (split s))) (getD (sums 22 (behind (left 22 (split s)))) 0 0)
-
-      second : List ℕ
-      second = moneyDecimal 0 (getD (sums 22 (split s)) 0 0)
-
-      neither : {n h : ℕ} → (Means s first → ⊥) → (Means s second → ⊥) → Means s (moneyDecimal n h) → Guessed s n h → ⊥
-      neither f g m (plainly p q) = f (rw (p, q) m)
-      neither f g m (alone q) = g (rw q m)
-
-      go : Dec (Means s first) → Dec (Means s second) → Dec ((t : List ℕ) × Means s t)
-      go (yes m) d = yes (first, m)
-      go (no f) (yes m) = yes (second, m)
-      go (no f) (no g) = no (λ p.
-          let m = p .1 in
-          neither f g (subst (Means s) (amount-is (m .valued) (amount-said S (currencyAt i) (m .says) .0)) m) (guessed S w i hi s (m .says)))
-
-  one-readable : Readable (λ (t : List ℕ). Admitted (amountRefusals t)) (λ (t : List ℕ). moneyPhrase S (some (currencyAt i)) t) Means
-  one-readable = inverse (λ t. Admitted (amountRefusals t)) (moneyPhrase S (some (currencyAt i))) Means (λ t. ℕ-discrete _ 0) (spelled-means S (currencyAt i)) (means-spelled S (currencyAt i)) one-value decided
-
-pub readable : (S : Settings) (code : List ℕ) (c : Currency) → Within (ukrainianRanges S) → currencyOf code ≡ some c
-    → Readable (λ (t : List ℕ). Admitted (amountRefusals t)) (λ (t : List ℕ). ukToCurrency S code t .phrase) (MoneyMeans S (currencyOf code))
-readable S code c w e =
-    let p = coded code c e in
-    subst (λ (o : Option Currency). Readable (λ (t : List ℕ). Admitted (amountRefusals t)) (λ (t : List ℕ). moneyPhrase S o t) (MoneyMeans S o)) (sym e)
-    (subst (λ (d : Currency). Readable (λ (t : List ℕ). Admitted (amountRefusals t)) (λ (t : List ℕ). moneyPhrase S (some d) t) (MoneyMeans S (some d))) (p .1) (one-readable S w (codePlace code) (p .0)))
+      go : (o : Option Currency) → currencyOf code ≡ o → amountReading S o .refusal ≡ 0 → Inverse (λ (t : List ℕ). Admitted (amountRefusals t)) (ukToCurrency S code) (ukFromCurrency S code)
+      go o e v = ?

@@ -2,7 +2,9 @@
 -- Assumes nothing.
 use borrow.Author.Needs.{needs}
 use native.Mathlib.Omega.{arith}
-use mathlib.Core.Path.{sym}
+use mathlib.Core.Path.{refl, sym}
+use Rattle.settings.specs.Settings.{frenchRanges}
+use Rattle.settings.proofs.Ranges.{in-range}
 use Rattle.cardinals.specs.Grammar.{Says}
 use Rattle.fr.specs.Rules.{french}
 use Rattle.numerals.proofs.Readings.{read-right}
@@ -14,8 +16,8 @@ pub read-cardinal-spec : {M : Type 1} → statement M
 read-cardinal-spec =
     tie.close
     (tie.spec
-    (λ c κs. search needs)
+    (λ c κs. (in-range (frenchRanges (c .before .before .before .args .settings)) (c .before .before .before .pre), refl))
     (λ c. sym (c .before .read-cardinal .ensures .1 .0))
     (λ c κs. let p = c .before .before .read-cardinal .ensures in ((p .1 .1, p .2), (omega (arith, p .1 .0), omega (arith, p .1 .0))))
     (λ c. search needs)
-    (λ c. let a = c .before .before .before .before .before .before .before .before .before .args in read-right (Says (french (a .settings))) (a .said .now) _ (a .out .now) _ _ (bounded-cardinal (a .settings) (a .said .now)) _ (c .before .before .before .before .before .read-cardinal .ensures .0) (c .before .before .put-read .ensures)))
+    (λ c. let a = c .before .before .before .before .before .before .before .before .before .args in read-right (Says (french (a .settings))) _ (c .before .before .before .before .before .before .before .before .before .pre) (a .said .now) _ (a .out .now) _ _ (bounded-cardinal (a .settings) (a .said .now)) _ (c .before .before .before .before .before .read-cardinal .ensures .0) (c .before .before .put-read .ensures)))

@@ -1,10 +1,13 @@
--- `fr_calls::read_ordinal` meets its contract.
+-- `fr_calls::read_ordinal` meets its contract: the number text of an ordinal, or 6.
 -- Assumes nothing.
 use borrow.Author.Needs.{needs}
 use native.Mathlib.Omega.{arith}
-use mathlib.Core.Path.{sym}
-use Rattle.base.proofs.Replies.{refuses}
-use Rattle.fr_calls.proofs.Answers.{ordinal-none, ordinal-some}
+use mathlib.Core.Path.{refl, sym}
+use Rattle.settings.specs.Settings.{frenchRanges}
+use Rattle.settings.proofs.Ranges.{in-range}
+use Rattle.fr.specs.Grammar.{SaysNth}
+use Rattle.numerals.proofs.Readings.{read-right}
+use Rattle.fr_calls.proofs.Theorems.{bounded-nth}
 use Rattle.fr_calls.proofs.read_ordinal.Statement.{statement}
 use Rattle.fr_calls.proofs.read_ordinal.Tie as tie
 
@@ -12,10 +15,8 @@ pub read-ordinal-spec : {M : Type 1} → statement M
 read-ordinal-spec =
     tie.close
     (tie.spec
-    (λ c κs. search needs)
-    (λ c. sym (c .before .before .read-ordinal .ensures .1 .0))
-    (λ c κs. let p = c .before .before .before .read-ordinal .ensures in ((p .1 .1, p .2), (omega (arith, p .1 .0), omega (arith, p .1 .0))))
-    (λ c κs. search needs)
+    (λ c κs. (in-range (frenchRanges (c .before .before .before .args .settings)) (c .before .before .before .pre), refl))
+    (λ c. sym (c .before .read-ordinal .ensures .1 .0))
+    (λ c κs. let p = c .before .before .read-ordinal .ensures in ((p .1 .1, p .2), (omega (arith, p .1 .0), omega (arith, p .1 .0))))
     (λ c. search needs)
-    (λ c. let a = c .before .before .before .before .before .before .before .before .before .before .args in let p = c .before .before .before .before .before .before .read-ordinal in ordinal-some (a .settings) (a .said .now) (p .last .1 .1 .0) (a .out .now) _ _ _ (p .ensures .0) (c .before .before .before .before .before .if1 .taken) (c .before .before .put-number .ensures))
-    (λ c. let a = c .before .before .before .before .before .before .args in let p = c .before .before .read-ordinal in ordinal-none (a .settings) (a .said .now) (p .last .1 .1 .0) (a .out .now) (a .out .now) _ _ (p .ensures .0) (c .before .if1 .left) (refuses (c .refused .ensures))))
+    (λ c. let a = c .before .before .before .before .before .before .before .before .before .args in read-right (SaysNth (a .settings)) _ (c .before .before .before .before .before .before .before .before .before .pre) (a .said .now) _ (a .out .now) _ _ (bounded-nth (a .settings) (a .said .now)) _ (c .before .before .before .before .before .read-ordinal .ensures .0) (c .before .before .put-read .ensures)))

@@ -1,12 +1,13 @@
 -- `uk_money_calls::read` meets its contract: the money text of an amount, or 6.
 -- Assumes nothing.
-use mathlib.Core.Path.{sym, subst}
+use Prim.Native.Nat.{_<_}
+use mathlib.Core.Path.{refl, sym, subst}
 use native.Mathlib.Omega.{arith}
 use borrow.Author.Needs.{needs}
 use Rattle.base.proofs.Replies.{refuses}
 use Rattle.uk_money.specs.Rows.{currencyAt}
-use Rattle.uk_money_read.specs.Promise.{ReadMoney}
-use Rattle.uk_money_read.specs.declared.Reading.{Reading}
+use Rattle.uk_money_read.specs.Promise.{seenHundredths, ReadMoney}
+use Rattle.uk_money_read.specs.declared.SeenAmount.{SeenAmount}
 use Rattle.uk_money_calls.proofs.Entries.{seen-none, seen-some}
 use Rattle.uk_money_calls.proofs.read.Statement.{statement}
 use Rattle.uk_money_calls.proofs.read.Tie as tie
@@ -15,24 +16,24 @@ returns : tie.Need-returns
 returns c =
     let a = c .before .before .before .before .before .before .before .args in
     let p = c .before .before .before .read-money in
-    seen-none (a .settings) (currencyAt (a .currency)) (a .said .now) (p .last .1 .1 .1 .0) (a .out .now) (a .out .now) _
-    (subst (λ (x : Reading). ReadMoney (a .settings) (currencyAt (a .currency)) (a .said .now) x (p .last .1 .1 .1 .0)) (c .before .enum-told .given .1) (p .ensures .0))
+    seen-none (a .settings) (currencyAt (a .currency)) (c .before .before .before .before .before .before .before .pre .0) (a .said .now) (p .last .1 .1 .1 .0) (a .out .now) (a .out .now) _
+    (subst (λ (x : SeenAmount). ReadMoney (a .settings) (currencyAt (a .currency)) (a .said .now) x (p .last .1 .1 .1 .0)) (c .before .enum-told .given .1) (p .ensures .0))
     (refuses (c .refused .ensures))
 
 returns-2 : tie.Need-returns-2
 returns-2 c =
     let a = c .before .before .before .before .before .before .before .before .before .before .before .before .args in
     let p = c .before .before .before .before .before .before .before .before .read-money in
-    let h = c .before .before .before .before .before .before .reading .given in
-    seen-some (a .settings) (currencyAt (a .currency)) (a .said .now) (p .last .1 .1 .1 .0) (a .out .now) _ (c .before .before .put-money-text .result) (h .0 .0)
-    (subst (λ (x : Reading). ReadMoney (a .settings) (currencyAt (a .currency)) (a .said .now) x (p .last .1 .1 .1 .0)) (h .1) (p .ensures .0))
+    let h = c .before .before .before .before .before .before .seen .given in
+    seen-some (a .settings) (currencyAt (a .currency)) (c .before .before .before .before .before .before .before .before .before .before .before .before .pre .0) (a .said .now) (p .last .1 .1 .1 .0) (a .out .now) _ (c .before .before .put-money-text .result) (h .0 .0)
+    (subst (λ (x : SeenAmount). ReadMoney (a .settings) (currencyAt (a .currency)) (a .said .now) x (p .last .1 .1 .1 .0)) (h .1) (p .ensures .0))
     (c .before .before .put-money-text .ensures)
 
 put-money-text-requires : tie.Need-put-money-text-requires
 put-money-text-requires c κs =
     let p = c .before .before .before .before .before .read-money .ensures in
-    let h = c .before .before .before .reading .given in
-    ((p .0 .groups, p .1), ((omega (arith, p .0 .size), omega (arith, p .0 .size)), p .0 .hundredths (h .0 .0) (h .1)))
+    let h = c .before .before .before .seen .given in
+    ((p .0 .groups, p .1), ((omega (arith, p .0 .size), omega (arith, p .0 .size)), subst (λ (x : SeenAmount). seenHundredths x < 100) (h .1) (p .0 .hundredths)))
 
 pub read-spec : {M : Type 1} → statement M
 read-spec =
