@@ -1,32 +1,29 @@
--- Demand 3 for Ukrainian money, over the definitions: `readable` below, for every code and any settings in their ranges.
+-- Demand 3 for Ukrainian money, over the calls' definitions.
 -- Assumes nothing.
 use Prim.Native.Nat.{ℕ, _<_}
 use mathlib.Core.Path.{_≡_, refl, sym, _∙_, subst}
-use mathlib.Core.List.{List}
-use mathlib.Core.Option.{Option, some}
-use native.Mathlib.Decide.{ℕ-discrete}
-use lib.ListN.{getD}
-use Rattle.base.specs.Claim.{Readable}
-use Rattle.settings.specs.Settings.{ukrainianRanges, Within}
+use mathlib.Core.Bool.{Bool, true, false, cond, not}
+use mathlib.Core.List.{List, _∷_}
+use mathlib.Core.Option.{Option, none, some}
+use native.Mathlib.Omega.{arith}
+use Rattle.base.specs.Answer.{wrongSetting, wrongCode}
+use Rattle.base.specs.Claim.{Inverse}
+use Rattle.base.proofs.Closing.{Readable, closed}
+use Rattle.settings.specs.Settings.{ukrainianRanges, within, Within}
 use Rattle.settings.specs.declared.Settings.{Settings}
+use Rattle.settings.proofs.Ranges.{in-range, behind-settings}
 use Rattle.figures.specs.Text.{negative}
-use Rattle.figures.specs.Groups.{total}
 use Rattle.figures.specs.Money.{moneyFormed, wholeOf, hundredthsOf, moneyLimit}
 use Rattle.figures.specs.Refusals.{amountRefusals, Admitted}
-use Rattle.figures.specs.Written.{moneyDecimal}
 use Rattle.figures.proofs.Laws.Refusals.{none-refused}
 use Rattle.figures.proofs.Laws.Round.{amount-is}
-use Rattle.tokens.specs.Tokens.{split}
-use Rattle.cardinals.proofs.Inverse.{means-decided, inverse}
-use Rattle.uk_read.specs.Reading.{sums, left}
 use Rattle.uk_money.specs.Currencies.{Currency}
-use Rattle.uk_money.specs.Codes.{currencyOf}
+use Rattle.uk_money.specs.Codes.{currencyOf, unknown}
 use Rattle.uk_money.specs.Rows.{currencyAt, codePlace}
 use Rattle.uk_money.proofs.Amounts.{amount-says, amount-said}
 use Rattle.uk_money.proofs.Coded.{coded}
-use Rattle.uk_money_read.specs.Behind.{behind}
-use Rattle.uk_money_read.proofs.Made.{says-once, Guessed, plainly, alone, guessed}
-use Rattle.uk_money_calls.specs.MoneyCalls.{ukToCurrency, moneyPhrase, MoneyMeans}
+use Rattle.uk_money_read.proofs.Made.{says-once}
+use Rattle.uk_money_calls.specs.MoneyCalls.{moneyPhrase, MoneyMeans, amountSpelling, amountReading, ukToCurrency, ukFromCurrency}
 use Rattle.uk_money_calls.proofs.Texts.{admits, hundredths-small}
 
 module _ (S : Settings) (c : Currency) where
@@ -62,9 +59,24 @@ module _ (S : Settings) (w : Within (ukrainianRanges S)) (i : ℕ) (hi : i < 44)
   one-readable = record { spelled = spelled-means S (currencyAt i); respelled = means-spelled S (currencyAt i); oneValue = one-value }
 
 -- of every code
-module _ (S : Settings) (code : List ℕ) where
-  pub money : ukFromCurrency S code .refusal ≡ 0 → Inverse (λ (t : List ℕ). Admitted (amountRefusals t)) (ukToCurrency S code) (ukFromCurrency S code)
-  money v = go (currencyOf code) refl v
+module _ (S : Settings) where
+  abbrev Closed : Option Currency → Type 0
+  Closed c = Inverse (λ (t : List ℕ). Admitted (amountRefusals t)) (amountSpelling S c) (amountReading S c)
+
+  one-closed : (c : Currency) → amountReading S (some c) .refusal ≡ 0 → Readable (λ (t : List ℕ). Admitted (amountRefusals t)) (moneyPhrase S (some c)) (MoneyMeans S (some c)) → Closed (some c)
+  one-closed c v R =
+      closed v (λ t a. behind-settings (ukrainianRanges S) (unknown (some c) ∷ amountRefusals t) v ∙ a) (λ t a. sym (behind-settings (ukrainianRanges S) (unknown (some c) ∷ amountRefusals t) v) ∙ a) R
+
+  pub money : (code : List ℕ) → ukFromCurrency S code .refusal ≡ 0 → Inverse (λ (t : List ℕ). Admitted (amountRefusals t)) (ukToCurrency S code) (ukFromCurrency S code)
+  money code v = go (currencyOf code) refl v
     where
-      go : (o : Option Currency) → currencyOf code ≡ o → amountReading S o .refusal ≡ 0 → Inverse (λ (t : List ℕ). Admitted (amountRefusals t)) (ukToCurrency S code) (ukFromCurrency S code)
-      go o e v = ?
+      unknown-refused : (b : Bool) → cond (not b) wrongSetting wrongCode ≡ 0 → ⊥
+      unknown-refused true e = omega arith
+      unknown-refused false e = omega arith
+
+      go : (c : Option Currency) → currencyOf code ≡ c → amountReading S c .refusal ≡ 0 → Closed c
+      go none e v = absurd (unknown-refused (within (ukrainianRanges S)) v)
+      go (some c) e v =
+          let p = coded code c e in
+          one-closed c v (subst (λ (d : Currency). Readable (λ (t : List ℕ). Admitted (amountRefusals t)) (moneyPhrase S (some d)) (MoneyMeans S (some d))) (p .1)
+          (one-readable S (in-range (ukrainianRanges S) v) (codePlace code) (p .0)))

@@ -21,21 +21,21 @@ abbrev pub moneyPhrase : Settings → Option Currency → List ℕ → List ℕ
 moneyPhrase S none t = []
 moneyPhrase S (some c) t = amountPhrase S c (wholeOf t) (hundredthsOf t)
 
--- the phrase of a money text in the currency of a code
-abbrev pub ukToCurrency : Settings → List ℕ → List ℕ → Spelling
-ukToCurrency S code t = record {
-  refusal = firstOf (outOfRange (ukrainianRanges S) ∷ unknown (currencyOf code) ∷ amountRefusals t);
-  phrase = moneyPhrase S (currencyOf code) t;
-}
-
 -- the phrase s is an amount in a currency, whose value is the money text t; in none there is no sentence
 abbrev pub MoneyMeans : Settings → Option Currency → List ℕ → List ℕ → Type 0
 MoneyMeans S none s t = ⊥
 MoneyMeans S (some c) s t = AmountMeans (SaysMoney S c s) t
 
--- the money text of an amount in a currency, if there is one
+-- spelling and reading in a currency, if there is one
+abbrev pub amountSpelling : Settings → Option Currency → List ℕ → Spelling
+amountSpelling S c t = record { refusal = firstOf (outOfRange (ukrainianRanges S) ∷ unknown c ∷ amountRefusals t); phrase = moneyPhrase S c t }
+
 abbrev pub amountReading : Settings → Option Currency → Reading
 amountReading S c = record { refusal = firstOf (outOfRange (ukrainianRanges S) ∷ unknown c ∷ []); Means = MoneyMeans S c }
+
+-- the phrase of a money text in the currency of a code
+abbrev pub ukToCurrency : Settings → List ℕ → List ℕ → Spelling
+ukToCurrency S code t = amountSpelling S (currencyOf code) t
 
 -- the money text of an amount in the currency of a code
 abbrev pub ukFromCurrency : Settings → List ℕ → Reading

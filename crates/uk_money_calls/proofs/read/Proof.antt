@@ -5,6 +5,8 @@ use mathlib.Core.Path.{refl, sym, subst}
 use native.Mathlib.Omega.{arith}
 use borrow.Author.Needs.{needs}
 use Rattle.base.proofs.Replies.{refuses}
+use Rattle.settings.specs.Settings.{ukrainianRanges}
+use Rattle.settings.proofs.Ranges.{in-range}
 use Rattle.uk_money.specs.Rows.{currencyAt}
 use Rattle.uk_money_read.specs.Promise.{seenHundredths, ReadMoney}
 use Rattle.uk_money_read.specs.declared.SeenAmount.{SeenAmount}
@@ -38,5 +40,5 @@ put-money-text-requires c κs =
 pub read-spec : {M : Type 1} → statement M
 read-spec =
     tie.close
-    (tie.spec (λ c κs. search needs) (λ c. search needs) (λ c κs. search needs) (λ c. search needs) (λ c. sym (c .before .before .before .before .read-money .ensures .0 .size)) put-money-text-requires
+    (tie.spec (λ c κs. let s = c .before .before .before in (in-range (ukrainianRanges (s .args .settings)) (s .pre .0), s .pre .1, refl)) (λ c. search needs) (λ c κs. search needs) (λ c. search needs) (λ c. sym (c .before .before .before .before .read-money .ensures .0 .size)) put-money-text-requires
     returns (λ c. search needs) returns-2)
