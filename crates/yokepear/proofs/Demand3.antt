@@ -1,38 +1,35 @@
--- Demand 3 in one place: for each kind that is read back, the whole claim over its definitions. `Readable` (crate base) says it in five lines.
+-- Demand 3 of every kind that is read: `Inverse` (crate base) says it of the kind's two calls, by the definitions that their contracts cite, whatever the
+-- numbers and the code are, if the reading call refuses neither (01's refusals 1 and 2).
 -- Assumes nothing.
 use Prim.Native.Nat.{ℕ}
 use mathlib.Core.Path.{_≡_}
 use mathlib.Core.List.{List}
-use mathlib.Core.Option.{some}
-use Rattle.base.specs.Claim.{Readable}
-use Rattle.settings.specs.Settings.{ukrainianRanges, frenchRanges, Within}
-use Rattle.settings.specs.declared.Settings.{Settings}
+use Rattle.base.specs.Claim.{Inverse}
+use Rattle.settings.specs.Settings.{ukrainianSettings, frenchSettings}
 use Rattle.figures.specs.Refusals.{ukrainianDigitLimit, frenchDigitLimit, cardinalRefusals, ordinalRefusals, amountRefusals, Admitted}
-use Rattle.uk_calls.specs.UkCardinals.{ukToCardinal, UkCardinalMeans}
-use Rattle.uk_calls.proofs.Theorem as uk-cardinals
-use Rattle.uk_money.specs.Currencies.{Currency}
-use Rattle.uk_money.specs.Codes.{currencyOf}
-use Rattle.uk_money_calls.specs.MoneyCalls.{ukToCurrency, MoneyMeans}
-use Rattle.uk_money_calls.proofs.Theorem as uk-money
-use Rattle.fr_calls.specs.FrCalls.{frToCardinal, frToOrdinal, FrCardinalMeans, FrOrdinalMeans}
+use Rattle.uk_calls.specs.UkCardinals.{ukToCardinal, ukFromCardinal}
+use Rattle.uk_calls.proofs.Theorem as uk-theorem
+use Rattle.uk_money_calls.specs.MoneyCalls.{ukToCurrency, ukFromCurrency}
+use Rattle.uk_money_calls.proofs.Theorem as uk-money-theorem
+use Rattle.fr_calls.specs.FrCalls.{frToCardinal, frToOrdinal, frFromCardinal, frFromOrdinal}
 use Rattle.fr_calls.proofs.Theorems as fr-theorems
 
 -- Ukrainian cardinals
-pub ukrainian-cardinals : (S : Settings) → Within (ukrainianRanges S)
-    → Readable (λ t. Admitted (cardinalRefusals ukrainianDigitLimit t)) (λ t. ukToCardinal S t .phrase) (UkCardinalMeans S)
-ukrainian-cardinals = uk-cardinals.readable
+pub ukrainian-cardinals : (gender number case : ℕ) → let S = ukrainianSettings gender number case in ukFromCardinal S .refusal ≡ 0
+    → Inverse (λ (t : List ℕ). Admitted (cardinalRefusals ukrainianDigitLimit t)) (ukToCardinal S) (ukFromCardinal S)
+ukrainian-cardinals gender number case = uk-theorem.cardinals (ukrainianSettings gender number case)
 
--- Ukrainian money, in the currency of every code
-pub ukrainian-money : (S : Settings) (code : List ℕ) (c : Currency) → Within (ukrainianRanges S) → currencyOf code ≡ some c
-    → Readable (λ t. Admitted (amountRefusals t)) (λ t. ukToCurrency S code t .phrase) (MoneyMeans S (currencyOf code))
-ukrainian-money = uk-money.readable
+-- Ukrainian money
+pub ukrainian-money : (gender number case : ℕ) (code : List ℕ) → let S = ukrainianSettings gender number case in ukFromCurrency S code .refusal ≡ 0
+    → Inverse (λ (t : List ℕ). Admitted (amountRefusals t)) (ukToCurrency S code) (ukFromCurrency S code)
+ukrainian-money gender number case = uk-money-theorem.money (ukrainianSettings gender number case)
 
 -- French cardinals
-pub french-cardinals : (S : Settings) → Within (frenchRanges S)
-    → Readable (λ t. Admitted (cardinalRefusals frenchDigitLimit t)) (λ t. frToCardinal S t .phrase) (FrCardinalMeans S)
-french-cardinals = fr-theorems.cardinals
+pub french-cardinals : (feminine reformed region : ℕ) → let S = frenchSettings feminine reformed region in frFromCardinal S .refusal ≡ 0
+    → Inverse (λ (t : List ℕ). Admitted (cardinalRefusals frenchDigitLimit t)) (frToCardinal S) (frFromCardinal S)
+french-cardinals feminine reformed region = fr-theorems.cardinals (frenchSettings feminine reformed region)
 
 -- French ordinals
-pub french-ordinals : (S : Settings) → Within (frenchRanges S)
-    → Readable (λ t. Admitted (ordinalRefusals frenchDigitLimit t)) (λ t. frToOrdinal S t .phrase) (FrOrdinalMeans S)
-french-ordinals = fr-theorems.ordinals
+pub french-ordinals : (feminine reformed region : ℕ) → let S = frenchSettings feminine reformed region in frFromOrdinal S .refusal ≡ 0
+    → Inverse (λ (t : List ℕ). Admitted (ordinalRefusals frenchDigitLimit t)) (frToOrdinal S) (frFromOrdinal S)
+french-ordinals feminine reformed region = fr-theorems.ordinals (frenchSettings feminine reformed region)

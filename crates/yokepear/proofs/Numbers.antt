@@ -1,0 +1,91 @@
+-- The numbers that calls answer with (01, "Where each refusal arises"), over all calls.
+-- Assumes nothing.
+use Prim.Native.Nat.{ℕ, zero, suc, _≤_}
+use mathlib.Core.Path.{_≡_, refl}
+use mathlib.Core.Bool.{Bool, true, false, cond}
+use mathlib.Core.Logic.{_⊎_, inl, inr}
+use mathlib.Core.List.{List, [], _∷_}
+use mathlib.Core.Option.{Option, none, some}
+use native.Mathlib.Omega.{arith}
+use lib.Dec.{ltb}
+use lib.ListN.{length}
+use Rattle.base.specs.Answer.{wrongSetting, wrongCode, malformed, wrongSign, tooLarge, noSentence, noRoom, firstOf, Reply, refused, bytes, numberOf, fitted, unless, replied, Answers}
+use Rattle.base.specs.Reading.{Replies, earlier, sentence, otherwise, Reads}
+use Rattle.base.specs.declared.Answer.{Answer}
+use Rattle.settings.specs.Settings.{ukrainianSettings, frenchSettings, ukrainianRanges, frenchRanges}
+use Rattle.settings.specs.Refused.{outOfRange}
+use Rattle.figures.specs.Refusals.{ukrainianDigitLimit, frenchDigitLimit, cardinalRefusals, ordinalRefusals, digitOrdinalRefusals, amountRefusals}
+use Rattle.uk_money.specs.Currencies.{Currency}
+use Rattle.uk_money.specs.Codes.{currencyOf, unknown}
+use Rattle.yokepear.specs.Calls.{SpellingCall, spellingOf, readingOf, toCardinal, toOrdinal, toOrdinalNum, toYear, toCurrency, toFrenchCardinal, toFrenchOrdinal, ReadingCall, fromCardinal, fromCurrency, fromFrenchCardinal, fromFrenchOrdinal, Called, spelled, read, OneOf}
+
+-- what holds of 0, 7 and the numbers of the conditions that a call names holds of the number that it answers with
+module _ (P : ℕ → Type 0) (none-is : P 0) (room-is : P noRoom) where
+  abbrev Each : List (Bool × ℕ) → Type 0
+  Each [] = Unit
+  Each (c ∷ cs) = P (c .1) × Each cs
+
+  first-is : (cs : List (Bool × ℕ)) → Each cs → P (firstOf cs)
+  first-is [] p = none-is
+  first-is (c ∷ cs) p = go (c .0) (first-is cs (p .1))
+    where
+      go : (b : Bool) → P (firstOf cs) → P (cond b (c .1) (firstOf cs))
+      go true q = p .0
+      go false q = q
+
+  fitted-is : (xs b : List ℕ) → P (numberOf (fitted xs b))
+  fitted-is xs b = go (ltb (length xs) (length b))
+    where
+      go : (t : Bool) → P (numberOf (cond t (refused noRoom (length b)) (bytes b)))
+      go true = room-is
+      go false = none-is
+
+  replied-is : (n : ℕ) (xs b : List ℕ) → P n → P (numberOf (unless n (fitted xs b)))
+  replied-is zero xs b p = fitted-is xs b
+  replied-is (suc n) xs b p = p
+
+  module _ (setting-is : P wrongSetting) (code-is : P wrongCode) where
+    settings-then : (rs : List (ℕ × ℕ)) (cs : List (Bool × ℕ)) → Each cs → P (firstOf (outOfRange rs ∷ cs))
+    settings-then rs cs p = first-is (outOfRange rs ∷ cs) (setting-is, p)
+
+    unknown-is : (c : Option Currency) → P (unknown c .1)
+    unknown-is none = code-is
+    unknown-is (some c) = code-is
+
+    spelling-is : P malformed → P wrongSign → P tooLarge → (call : SpellingCall) (xs : List ℕ) → P (numberOf (replied (spellingOf call) xs))
+    spelling-is text sign size call xs = replied-is (spellingOf call .refusal) xs (spellingOf call .phrase) (go call)
+      where
+        go : (call : SpellingCall) → P (spellingOf call .refusal)
+        go (toCardinal gender number case t) = settings-then (ukrainianRanges (ukrainianSettings gender number case)) (cardinalRefusals ukrainianDigitLimit t) (text, (size, tt))
+        go (toOrdinal gender number case t) = settings-then (ukrainianRanges (ukrainianSettings gender number case)) (ordinalRefusals ukrainianDigitLimit t) (text, (sign, (size, tt)))
+        go (toOrdinalNum gender number case t) = settings-then (ukrainianRanges (ukrainianSettings gender number case)) (digitOrdinalRefusals t) (text, (sign, (size, tt)))
+        go (toYear gender number case y) = settings-then (ukrainianRanges (ukrainianSettings gender number case)) [] tt
+        go (toCurrency gender number case code t) = settings-then (ukrainianRanges (ukrainianSettings gender number case)) (unknown (currencyOf code) ∷ amountRefusals t) (unknown-is (currencyOf code), (text, (sign, (size, tt))))
+        go (toFrenchCardinal feminine reformed region t) = settings-then (frenchRanges (frenchSettings feminine reformed region)) (cardinalRefusals frenchDigitLimit t) (text, (size, tt))
+        go (toFrenchOrdinal feminine reformed region t) = settings-then (frenchRanges (frenchSettings feminine reformed region)) (ordinalRefusals frenchDigitLimit t) (text, (sign, (size, tt)))
+
+    reading-is : P noSentence → (call : ReadingCall) {s xs : List ℕ} {reply : Reply} → Replies (readingOf call) s xs reply → P (numberOf reply)
+    reading-is six call {s} {xs} (earlier f) = go call
+      where
+        go : (call : ReadingCall) → P (readingOf call .refusal)
+        go (fromCardinal gender number case) = settings-then (ukrainianRanges (ukrainianSettings gender number case)) [] tt
+        go (fromCurrency gender number case code) = settings-then (ukrainianRanges (ukrainianSettings gender number case)) (unknown (currencyOf code) ∷ []) (unknown-is (currencyOf code), tt)
+        go (fromFrenchCardinal feminine reformed region) = settings-then (frenchRanges (frenchSettings feminine reformed region)) [] tt
+        go (fromFrenchOrdinal feminine reformed region) = settings-then (frenchRanges (frenchSettings feminine reformed region)) [] tt
+    reading-is six call {s} {xs} (sentence z t m) = fitted-is xs t
+    reading-is six call {s} {xs} (otherwise z f) = six
+
+-- "Spelling never gives 6"
+pub spelling-never-6 : (call : SpellingCall) (r : Answer) (xs ys : List ℕ) → Answers r xs ys (replied (spellingOf call) xs) → r .number ≡ noSentence → ⊥
+spelling-never-6 call r xs ys a = rw (a .reported) (spelling-is (λ (n : ℕ). n ≡ noSentence → ⊥) (λ e. omega arith) (λ e. omega arith) (λ e. omega arith) (λ e. omega arith) (λ e. omega arith) (λ e. omega arith) (λ e. omega arith) call xs)
+
+-- "Reading gives 1, 2, 6 or 7 only", where it refuses
+pub reading-gives : (call : ReadingCall) (s : List ℕ) (r : Answer) (xs ys : List ℕ) → Reads (readingOf call) s r xs ys → OneOf (0 ∷ wrongSetting ∷ wrongCode ∷ noSentence ∷ noRoom ∷ []) (r .number)
+reading-gives call s r xs ys p =
+    rw (p .answers .reported)
+    (reading-is (OneOf (0 ∷ wrongSetting ∷ wrongCode ∷ noSentence ∷ noRoom ∷ [])) (inl refl) (inr (inr (inr (inr (inl refl))))) (inr (inl refl)) (inr (inr (inl refl))) (inr (inr (inr (inl refl)))) call (p .replies))
+
+-- every call's number is one of the table, or 0
+pub number-known : (r : Answer) (xs ys : List ℕ) → Called r xs ys → r .number ≤ noRoom
+number-known r xs ys (spelled call a) = rw (a .reported) (spelling-is (λ (n : ℕ). n ≤ noRoom) (omega arith) (omega arith) (omega arith) (omega arith) (omega arith) (omega arith) (omega arith) call xs)
+number-known r xs ys (read call s p) = rw (p .answers .reported) (reading-is (λ (n : ℕ). n ≤ noRoom) (omega arith) (omega arith) (omega arith) (omega arith) (omega arith) call (p .replies))

@@ -1,0 +1,59 @@
+-- All calls, by the definitions that their contracts cite (01, "Where each refusal arises").
+-- Assumes nothing.
+use Prim.Native.Nat.{ℕ}
+use mathlib.Core.Path.{_≡_}
+use mathlib.Core.Logic.{_⊎_}
+use mathlib.Core.List.{List, [], _∷_}
+use lib.IntN.{ℤ}
+use Rattle.base.specs.Answer.{Spelling, replied, Answers}
+use Rattle.base.specs.Reading.{Reading, Reads}
+use Rattle.base.specs.declared.Answer.{Answer}
+use Rattle.settings.specs.Settings.{ukrainianSettings, frenchSettings}
+use Rattle.uk_calls.specs.UkCardinals.{ukToCardinal, ukFromCardinal}
+use Rattle.uk_ordinal_calls.specs.UkOrdinals.{ukToOrdinal, ukToOrdinalNum, ukToYear}
+use Rattle.uk_money_calls.specs.MoneyCalls.{ukToCurrency, ukFromCurrency}
+use Rattle.fr_calls.specs.FrCalls.{frToCardinal, frToOrdinal, frFromCardinal, frFromOrdinal}
+
+-- the spelling calls, each with the numbers and the input that it is given
+pub data SpellingCall : Type 0 where
+  toCardinal : (gender number case : ℕ) (text : List ℕ) → SpellingCall
+  toOrdinal : (gender number case : ℕ) (text : List ℕ) → SpellingCall
+  toOrdinalNum : (gender number case : ℕ) (text : List ℕ) → SpellingCall
+  toYear : (gender number case : ℕ) (year : ℤ) → SpellingCall
+  toCurrency : (gender number case : ℕ) (code text : List ℕ) → SpellingCall
+  toFrenchCardinal : (feminine reformed region : ℕ) (text : List ℕ) → SpellingCall
+  toFrenchOrdinal : (feminine reformed region : ℕ) (text : List ℕ) → SpellingCall
+
+-- what each comes to
+abbrev pub spellingOf : SpellingCall → Spelling
+spellingOf (toCardinal gender number case text) = ukToCardinal (ukrainianSettings gender number case) text
+spellingOf (toOrdinal gender number case text) = ukToOrdinal (ukrainianSettings gender number case) text
+spellingOf (toOrdinalNum gender number case text) = ukToOrdinalNum (ukrainianSettings gender number case) text
+spellingOf (toYear gender number case year) = ukToYear (ukrainianSettings gender number case) year
+spellingOf (toCurrency gender number case code text) = ukToCurrency (ukrainianSettings gender number case) code text
+spellingOf (toFrenchCardinal feminine reformed region text) = frToCardinal (frenchSettings feminine reformed region) text
+spellingOf (toFrenchOrdinal feminine reformed region text) = frToOrdinal (frenchSettings feminine reformed region) text
+
+-- the reading calls, each with what it is given besides the phrase
+pub data ReadingCall : Type 0 where
+  fromCardinal : (gender number case : ℕ) → ReadingCall
+  fromCurrency : (gender number case : ℕ) (code : List ℕ) → ReadingCall
+  fromFrenchCardinal : (feminine reformed region : ℕ) → ReadingCall
+  fromFrenchOrdinal : (feminine reformed region : ℕ) → ReadingCall
+
+-- what each comes to
+abbrev pub readingOf : ReadingCall → Reading
+readingOf (fromCardinal gender number case) = ukFromCardinal (ukrainianSettings gender number case)
+readingOf (fromCurrency gender number case code) = ukFromCurrency (ukrainianSettings gender number case) code
+readingOf (fromFrenchCardinal feminine reformed region) = frFromCardinal (frenchSettings feminine reformed region)
+readingOf (fromFrenchOrdinal feminine reformed region) = frFromOrdinal (frenchSettings feminine reformed region)
+
+-- the answer r, with the buffer xs left as ys, is one that the contract of some call allows
+pub data Called (r : Answer) (xs ys : List ℕ) : Type 0 where
+  spelled : (call : SpellingCall) → Answers r xs ys (replied (spellingOf call) xs) → Called r xs ys
+  read : (call : ReadingCall) (s : List ℕ) → Reads (readingOf call) s r xs ys → Called r xs ys
+
+-- n is one of these
+abbrev pub OneOf : List ℕ → ℕ → Type 0
+OneOf [] n = ⊥
+OneOf (m ∷ ms) n = (n ≡ m) ⊎ OneOf ms n
