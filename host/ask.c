@@ -18,6 +18,15 @@ struct call calls[] = {
 
 const size_t call_count = sizeof calls / sizeof *calls;
 
+const char *const codes[] = {
+    "AED", "ARS", "AUD", "BRL", "CAD", "CHF", "CLP", "CNY", "COP",  "CRC",   "DINAR",
+    "DOLLAR", "DZD", "EUR", "GBP", "HKD", "IDR", "ILS", "INR", "JPY", "KRW", "KWD",
+    "KZT", "MXN", "MYR", "NOK", "NZD", "PEN", "PESO", "PHP", "PLN", "QAR", "RIYAL",
+    "RUB", "SAR", "SGD", "THB", "TRY", "TWD", "UAH", "USD", "UYU", "VND", "ZAR",
+};
+
+const size_t code_count = sizeof codes / sizeof *codes;
+
 struct call *find_call(const char *name) {
   for (size_t i = 0; i < call_count; i++)
     if (!strcmp(calls[i].name, name)) return &calls[i];

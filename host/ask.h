@@ -39,6 +39,10 @@ struct request {
 extern struct call calls[];
 extern const size_t call_count;
 
+/* The currency codes. */
+extern const char *const codes[];
+extern const size_t code_count;
+
 /* The call of this name, or null if there is none. */
 struct call *find_call(const char *name);
 

@@ -4,13 +4,6 @@
 #include "expect.h"
 #include "tests.h"
 
-static const char *const codes[] = {
-    "AED", "ARS", "AUD", "BRL", "CAD", "CHF", "CLP", "CNY", "COP",  "CRC",   "DINAR",
-    "DOLLAR", "DZD", "EUR", "GBP", "HKD", "IDR", "ILS", "INR", "JPY", "KRW", "KWD",
-    "KZT", "MXN", "MYR", "NOK", "NZD", "PEN", "PESO", "PHP", "PLN", "QAR", "RIYAL",
-    "RUB", "SAR", "SGD", "THB", "TRY", "TWD", "UAH", "USD", "UYU", "VND", "ZAR",
-};
-
 static const char *const unknown[] = {
     "", "U", "UA", "UAHH", "uah", "Uah", " UAH", "UAH ", "EURO", "DINA", "DINARS", "DOLAR",
     "DOLLARS", "PESOS", "RIYALS", "XXX", "AAA", "ZZZ", "980", "\xd0\xa3\xd0\x90\xd0\x93", "\xff",
@@ -50,7 +43,7 @@ static void unknown_code(struct request r) {
 }
 
 static void test_setting(struct request r) {
-  for (size_t i = 0; i < sizeof codes / sizeof *codes; i++) {
+  for (size_t i = 0; i < code_count; i++) {
     set_code(&r, codes[i]);
     if (r.call->reading) continue;
     known_code(r, "21.02");
