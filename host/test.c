@@ -14,6 +14,7 @@ int main(int argc, char **argv) {
   test_texts();
   test_codes();
   test_phrases();
+  test_sizes();
   for (size_t i = 0; i < call_count; i++)
     printf("yokepear_%s: %lu answers, %lu refusals, asked %lu times\n", calls[i].name,
            calls[i].answers, calls[i].refusals, calls[i].asked);

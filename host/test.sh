@@ -1,10 +1,12 @@
 #!/bin/bash
-# The C host tests: the header, every call with guarded buffers, the example, the archive's needs
-# and its stack. Ends non-zero at a difference. YOKEPEAR_LIB is the static library's folder.
+# The C host tests: the header, every call with guarded buffers, the header's sizes, the example,
+# the archive's needs and its stack. Ends non-zero at a difference. YOKEPEAR_LIB is the static
+# library's folder.
 set -euo pipefail
 . "$(dirname "${BASH_SOURCE[0]}")/common.sh"
 "$host/header.sh"
-sources=(test.c test_table.c test_texts.c test_codes.c test_phrases.c ask.c guard.c expect.c)
+sources=(test.c test_table.c test_texts.c test_codes.c test_phrases.c test_sizes.c
+  ask.c guard.c expect.c figure.c longest.c)
 "${compile[@]}" "${sources[@]/#/$host/}" "$archive" -o "$build/test"
 "$build/test" "$host/expected.txt"
 "${compile[@]}" "$host/price_list.c" "$archive" -o "$build/price_list"

@@ -14,4 +14,7 @@ void test_codes(void);
 /* Phrases that no setting admits. */
 void test_phrases(void);
 
+/* The header's sizes, by the longest phrase and the longest text of each kind. */
+void test_sizes(void);
+
 #endif
