@@ -6,13 +6,14 @@ use mathlib.Core.Path.{_≡_}
 use mathlib.Core.List.{List, [], _∷_}
 use lib.IntN.{pos, negℤ}
 use Rattle.base.specs.Utf8.{utf8}
-use Rattle.base.specs.Answer.{malformed, wrongSign, tooLarge, Spelling}
-use Rattle.settings.specs.Settings.{masculine, feminine, singular, nominative, genitive, accusative, instrumental, locative, oldSpelling, newSpelling, regionFR, regionCH, ukrainianSettings, frenchSettings, inGender, inCase}
+use Rattle.base.specs.Answer.{malformed, wrongSign, tooLarge, noSentence, Spelling, refused}
+use Rattle.base.specs.Reading.{Reading, Replies}
+use Rattle.settings.specs.Settings.{masculine, feminine, singular, nominative, genitive, dative, accusative, instrumental, locative, oldSpelling, newSpelling, regionFR, regionCH, ukrainianSettings, frenchSettings, inGender, inCase}
 use Rattle.settings.specs.declared.Settings.{Settings}
-use Rattle.uk_calls.specs.UkCardinals.{ukToCardinal, UkCardinalMeans}
+use Rattle.uk_calls.specs.UkCardinals.{ukToCardinal, ukFromCardinal}
 use Rattle.uk_ordinal_calls.specs.UkOrdinals.{ukToOrdinal, ukToYear}
 use Rattle.uk_money_calls.specs.MoneyCalls.{ukToCurrency}
-use Rattle.fr_calls.specs.FrCalls.{frToCardinal, frToOrdinal}
+use Rattle.fr_calls.specs.FrCalls.{frToCardinal, frToOrdinal, frFromCardinal}
 
 -- "Ukrainian masculine, singular, nominative, or French masculine, unreformed, FR, unless named"
 abbrev pub usual : Settings
@@ -37,29 +38,29 @@ frCard S t = frToCardinal S (utf8 t)
 abbrev pub frOrd : Settings → String → Spelling
 frOrd S t = frToOrdinal S (utf8 t)
 
--- a line of the table: a call's phrase, its refusal, that it is not refused, a phrase that it does not say ("Errors of habit"), and a phrase that
--- is no sentence
-pub data Sample : Type 0 where
+-- a line of the table: a call's phrase; its refusal; that it is not refused; its phrase beside one that it does not say ("Errors of habit"); and a phrase
+-- that a reading call refuses
+pub data Sample : Type 1 where
   spells : Spelling → String → Sample
   refuses : Spelling → ℕ → Sample
   passes : Spelling → Sample
-  never : Spelling → String → Sample
-  unread : String → Sample
+  spellsNot : Spelling → String → String → Sample
+  readsNot : Reading → String → Sample
 
 -- what a line says
 abbrev pub Holds : Sample → Type 0
 Holds (spells S p) = (S .refusal ≡ 0) × (S .phrase ≡ utf8 p)
 Holds (refuses S n) = S .refusal ≡ n
 Holds (passes S) = S .refusal ≡ 0
-Holds (never S p) = S .phrase ≡ utf8 p → ⊥
-Holds (unread s) = (t : List ℕ) → UkCardinalMeans usual (utf8 s) t → ⊥
+Holds (spellsNot S p q) = (S .refusal ≡ 0) × (S .phrase ≡ utf8 p) × (S .phrase ≡ utf8 q → ⊥)
+Holds (readsNot R s) = (xs : List ℕ) → Replies R (utf8 s) xs (refused noSentence 0)
 
 -- every line holds
 abbrev pub All : List Sample → Type 0
 All [] = Unit
 All (s ∷ ss) = Holds s × All ss
 
--- the table: phrases, refusals, and "Errors of habit"
+-- the table: phrases and refusals
 abbrev pub samples : List Sample
 samples =
     spells (ukCard (inGender feminine usual) "42") "сорок дві" ∷
@@ -81,8 +82,21 @@ samples =
     refuses (ukMoney usual "UAH" "-0.50") wrongSign ∷
     refuses (ukCard usual "1000000000000000000000000000000000000000000000000000000000000000000") tooLarge ∷
     passes (ukCard usual "999999999999999999999999999999999999999999999999999999999999999999") ∷
-    unread "два тисячі" ∷
-    never (ukCard (inCase accusative usual) "5000") "пʼять тисяч" ∷
-    never (ukOrd usual "200") "двохсотий" ∷
-    never (frCard usualFrench "1000") "un mille" ∷
-    never (ukCard usual "5") "п'ять" ∷ []
+    readsNot (ukFromCardinal usual) "два тисячі" ∷ []
+
+-- "Errors of habit", each right phrase beside the wrong one, and what a reader does with the wrong one: "genitive after five in every case; `двохсотий` for
+-- 200th; `un mille`; an ASCII apostrophe for U+02BC"
+abbrev pub habits : List Sample
+habits =
+    spells (ukCard usual "5000") "пʼять тисяч" ∷
+    spells (ukCard (inCase genitive usual) "5000") "пʼяти тисяч" ∷
+    spellsNot (ukCard (inCase dative usual) "5000") "пʼяти тисячам" "пʼяти тисяч" ∷
+    spellsNot (ukCard (inCase accusative usual) "5000") "пʼять тисячі" "пʼять тисяч" ∷
+    spellsNot (ukCard (inCase instrumental usual) "5000") "пʼятьма тисячами" "пʼятьма тисяч" ∷
+    spellsNot (ukCard (inCase locative usual) "5000") "пʼяти тисячах" "пʼяти тисяч" ∷
+    readsNot (ukFromCardinal (inCase accusative usual)) "пʼять тисяч" ∷
+    spellsNot (ukOrd usual "200") "сотий" "двохсотий" ∷
+    spellsNot (frCard usualFrench "1000") "mille" "un mille" ∷
+    readsNot (frFromCardinal usualFrench) "un mille" ∷
+    spellsNot (ukCard usual "5") "пʼять" "п'ять" ∷
+    readsNot (ukFromCardinal usual) "п'ять" ∷ []
