@@ -1,11 +1,11 @@
 -- The room that the program keeps for an answer.
 -- Assumes nothing.
-use Prim.Native.Nat.{ℕ, suc}
+use Prim.Native.Nat.{ℕ, _+_}
 
--- no phrase is longer: as many bytes as the most pieces of a plan have at most
+-- no phrase is longer: 176 pieces, of 70 bytes each
 abbrev pub phraseRoom : ℕ
 phraseRoom = 12320
 
 -- with its line feed
 abbrev pub lineRoom : ℕ
-lineRoom = suc phraseRoom
+lineRoom = phraseRoom + 1

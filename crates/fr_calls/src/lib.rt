@@ -1,4 +1,4 @@
-// French cardinals and ordinals from bytes to bytes, both ways. No phrase has more than 12,320 bytes: the program keeps that much room for an answer.
+// French cardinals and ordinals from bytes to bytes, both ways. No phrase is longer than the room that the program keeps for an answer.
 use base::Answer;
 use base::WRONG_SETTING;
 use fr_plan::ORDERS;
@@ -10,6 +10,7 @@ ghost use Prim.Native.Nat.{_≤_};
 ghost use lib.ListN.{length};
 ghost use Rattle.base.specs.Answer.{fitted, replied, Answers};
 ghost use Rattle.base.specs.Reading.{Reads};
+ghost use Rattle.base.specs.Room.{phraseRoom};
 ghost use Rattle.settings.specs.Settings.{frenchSettings, frenchRanges, Within};
 ghost use Rattle.figures.specs.Text.{wellFormed, unsigned};
 ghost use Rattle.fr_calls.specs.FrCalls.{frToCardinal, frToOrdinal, frFromCardinal, frFromOrdinal};
@@ -43,7 +44,7 @@ fn refuse_ordinal(feminine: u32, reformed: u32, region: u32, text: &[u8]) -> u32
 fn spell_cardinal(settings: Settings, text: &[u8], out: &mut [u8]) -> Answer
     requires { ⌜ Within (frenchRanges settings) × (wellFormed (now text) ≡ true) × (length (unsigned (now text)) ≤ 102) ⌝ }
     ensures { λ r. ⌜ Answers r (now (out .entry)) (now (out .exit)) (fitted (now (out .entry)) (frToCardinal settings (now (text .entry)) .phrase)) ⌝ }
-    ensures { λ r. ⌜ r .length ≤ 12320 ⌝ }
+    ensures { λ r. ⌜ r .length ≤ phraseRoom ⌝ }
 {
     let zero = figures::is_zero(text);
     let minus = figures::is_negative(text);
@@ -59,7 +60,7 @@ fn spell_cardinal(settings: Settings, text: &[u8], out: &mut [u8]) -> Answer
 fn spell_ordinal(settings: Settings, text: &[u8], out: &mut [u8]) -> Answer
     requires { ⌜ Within (frenchRanges settings) × (wellFormed (now text) ≡ true) × (length (unsigned (now text)) ≤ 102) ⌝ }
     ensures { λ r. ⌜ Answers r (now (out .entry)) (now (out .exit)) (fitted (now (out .entry)) (frToOrdinal settings (now (text .entry)) .phrase)) ⌝ }
-    ensures { λ r. ⌜ r .length ≤ 12320 ⌝ }
+    ensures { λ r. ⌜ r .length ≤ phraseRoom ⌝ }
 {
     let lent = fr::texts();
     let digits = figures::after_sign(text);
@@ -93,7 +94,7 @@ fn read_ordinal(settings: Settings, said: &[u8], out: &mut [u8]) -> Answer
 // The cardinal of a number text.
 pub fn to_cardinal(feminine: u32, reformed: u32, region: u32, text: &[u8], out: &mut [u8]) -> Answer
     ensures { λ r. ⌜ Answers r (now (out .entry)) (now (out .exit)) (replied (frToCardinal (frenchSettings feminine reformed region) (now (text .entry))) (now (out .entry))) ⌝ }
-    ensures { λ r. ⌜ r .length ≤ 12320 ⌝ }
+    ensures { λ r. ⌜ r .length ≤ phraseRoom ⌝ }
 {
     let n = refuse_cardinal(feminine, reformed, region, text);
     if n == 0 {
@@ -106,7 +107,7 @@ pub fn to_cardinal(feminine: u32, reformed: u32, region: u32, text: &[u8], out: 
 // The ordinal of a number text.
 pub fn to_ordinal(feminine: u32, reformed: u32, region: u32, text: &[u8], out: &mut [u8]) -> Answer
     ensures { λ r. ⌜ Answers r (now (out .entry)) (now (out .exit)) (replied (frToOrdinal (frenchSettings feminine reformed region) (now (text .entry))) (now (out .entry))) ⌝ }
-    ensures { λ r. ⌜ r .length ≤ 12320 ⌝ }
+    ensures { λ r. ⌜ r .length ≤ phraseRoom ⌝ }
 {
     let n = refuse_ordinal(feminine, reformed, region, text);
     if n == 0 {

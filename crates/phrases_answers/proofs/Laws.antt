@@ -15,6 +15,7 @@ use mathlib.Core.Option.{Option, none, some}
 use Rattle.base.specs.Buffer.{over}
 use Rattle.base.specs.Answer.{firstOf, Spelling, refused, bytes, fitted, unless, replied, Answers}
 use Rattle.base.specs.declared.Answer.{Answer}
+use Rattle.base.specs.Room.{phraseRoom, lineRoom}
 use Rattle.settings.specs.Settings.{ukrainianSettings, frenchSettings, ukrainianRanges, frenchRanges, within}
 use Rattle.settings.specs.Refused.{outOfRange}
 use Rattle.settings.specs.declared.Settings.{Settings}
@@ -35,7 +36,7 @@ use Rattle.phrases_answers.specs.Wrote.{Wrote}
 use Rattle.phrases_answers.proofs.Forms.{form-is}
 
 -- what a line's writer promises, without the record
-pub plainly : {a : List ℕ} {r : ℕ} {xs ys : List ℕ} → Wrote a r xs ys → ((r ≡ length a) × (ys ≡ over xs a)) × (r ≤ 12321)
+pub plainly : {a : List ℕ} {r : ℕ} {xs ys : List ℕ} → Wrote a r xs ys → ((r ≡ length a) × (ys ≡ over xs a)) × (r ≤ lineRoom)
 plainly w = ((w .size, w .bytes), w .room)
 
 -- where a line refuses, it is the same whatever the phrase
@@ -48,7 +49,7 @@ over-over b t xs =
     ap (λ (l : List ℕ). (b ++ t) ++ l) (rw length-append (drop-append-add b (drop (length b) xs) (length t) ∙ drop-drop (length t) (length b) xs))
 
 -- the phrase at the front of a buffer gets its line feed
-pub line-fed : (n l : ℕ) (xs : List ℕ) → n ≡ 0 → l ≤ 12320 → l < length xs → Wrote (lineOf n (take l xs)) (l + 1) xs (set xs l 10)
+pub line-fed : (n l : ℕ) (xs : List ℕ) → n ≡ 0 → l ≤ phraseRoom → l < length xs → Wrote (lineOf n (take l xs)) (l + 1) xs (set xs l 10)
 line-fed n l xs e h f =
     let p : List ℕ = take l xs ++ (10 ∷ []) in
     let s : length p ≡ l + 1 = length-append (take l xs) (10 ∷ []) ∙ ap (λ (k : ℕ). k + 1) (length-take-le l xs (omega arith)) in
@@ -59,8 +60,8 @@ line-fed n l xs e h f =
     } in
     rw e w
 
--- a call's answer, of which no length is above 12,320, and its line
-module _ (a : Answer) (S : Spelling) (xs ys : List ℕ) (short : a .length ≤ 12320) (room : 12321 ≤ length xs) where
+-- a call's answer, and its line
+module _ (a : Answer) (S : Spelling) (xs ys : List ℕ) (short : a .length ≤ phraseRoom) (room : lineRoom ≤ length xs) where
   -- the phrase fits
   fits : Answers a xs ys (fitted xs (S .phrase)) → (a .number ≡ 0) × ((a .length ≡ length (S .phrase)) × (ys ≡ over xs (S .phrase)))
   fits e = go (ltb (length xs) (length (S .phrase))) refl e

@@ -5,10 +5,10 @@ use mathlib.Core.Path.{_≡_}
 use mathlib.Core.List.{List}
 use lib.ListN.{length}
 use Rattle.base.specs.Buffer.{over}
+use Rattle.base.specs.Room.{lineRoom}
 
--- the line a was written over the front of the buffer xs, which then holds ys; r is its length, at most the 12,320 bytes to which the calls bound a
--- phrase, and the line feed
+-- the line a was written over the front of the buffer xs, which then holds ys; r is its length
 pub record Wrote (a : List ℕ) (r : ℕ) (xs ys : List ℕ) : Type 0 where
   pub size : r ≡ length a
-  pub room : r ≤ 12321
+  pub room : r ≤ lineRoom
   pub bytes : ys ≡ over xs a

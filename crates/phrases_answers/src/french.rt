@@ -5,6 +5,7 @@ use phrases_forms::Kind;
 use phrases_forms::runs::is_closed;
 ghost use Prim.Native.Nat.{_≤_};
 ghost use lib.ListN.{length};
+ghost use Rattle.base.specs.Room.{lineRoom};
 ghost use Rattle.phrases_forms.specs.declared.Kind.the-variants.{Card, Ord};
 ghost use Rattle.phrases_forms.specs.declared.Language.the-variants.{French as FrenchLanguage};
 ghost use Rattle.settings.specs.Settings.{frenchSettings};
@@ -14,7 +15,7 @@ ghost use Rattle.phrases_answers.specs.Wrote.{Wrote};
 
 // A cardinal's form.
 fn card(feminine: u32, reformed: u32, region: u32, s: &[u8], out: &mut [u8]) -> usize
-    requires { ⌜ 12321 ≤ length (now out) ⌝ }
+    requires { ⌜ lineRoom ≤ length (now out) ⌝ }
     ensures { λ r. ⌜ Wrote (answerTo (frenchLeft Card (frenchSettings feminine reformed region) (now (s .entry)))) r (now (out .entry)) (now (out .exit)) ⌝ }
 {
     if is_closed(s) {
@@ -27,7 +28,7 @@ fn card(feminine: u32, reformed: u32, region: u32, s: &[u8], out: &mut [u8]) -> 
 
 // An ordinal's.
 fn ord(feminine: u32, reformed: u32, region: u32, s: &[u8], out: &mut [u8]) -> usize
-    requires { ⌜ 12321 ≤ length (now out) ⌝ }
+    requires { ⌜ lineRoom ≤ length (now out) ⌝ }
     ensures { λ r. ⌜ Wrote (answerTo (frenchLeft Ord (frenchSettings feminine reformed region) (now (s .entry)))) r (now (out .entry)) (now (out .exit)) ⌝ }
 {
     if is_closed(s) {
@@ -40,7 +41,7 @@ fn ord(feminine: u32, reformed: u32, region: u32, s: &[u8], out: &mut [u8]) -> u
 
 // The form of a kind.
 fn form(kind: Kind, feminine: u32, reformed: u32, region: u32, s: &[u8], out: &mut [u8]) -> usize
-    requires { ⌜ 12321 ≤ length (now out) ⌝ }
+    requires { ⌜ lineRoom ≤ length (now out) ⌝ }
     ensures { λ r. ⌜ Wrote (answerTo (frenchLeft kind (frenchSettings feminine reformed region) (now (s .entry)))) r (now (out .entry)) (now (out .exit)) ⌝ }
 {
     match kind {
@@ -55,7 +56,7 @@ fn form(kind: Kind, feminine: u32, reformed: u32, region: u32, s: &[u8], out: &m
 
 // A form of which the settings and what follows them are left.
 pub fn settle(kind: Kind, s: &[u8], out: &mut [u8]) -> usize
-    requires { ⌜ 12321 ≤ length (now out) ⌝ }
+    requires { ⌜ lineRoom ≤ length (now out) ⌝ }
     ensures { λ r. ⌜ Wrote (answerTo (settledLeft kind FrenchLanguage (now (s .entry)))) r (now (out .entry)) (now (out .exit)) ⌝ }
 {
     let w = phrases_forms::settings::french(s);

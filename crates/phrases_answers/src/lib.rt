@@ -10,6 +10,7 @@ ghost use mathlib.Core.Path.{_≡_};
 ghost use Prim.Native.Nat.{_≤_};
 ghost use lib.ListN.{length};
 ghost use Rattle.base.specs.Buffer.{over};
+ghost use Rattle.base.specs.Room.{lineRoom};
 ghost use Rattle.phrases_answers.specs.Answers.{answerTo, answerLine};
 ghost use Rattle.phrases_answers.specs.Left.{settledLeft};
 ghost use Rattle.phrases_answers.specs.Wrote.{Wrote};
@@ -19,7 +20,7 @@ pub const LONGEST_LINE: usize = 512;
 
 // A form of which the settings and what follows them are left.
 fn settle(kind: Kind, language: Language, s: &[u8], out: &mut [u8]) -> usize
-    requires { ⌜ 12321 ≤ length (now out) ⌝ }
+    requires { ⌜ lineRoom ≤ length (now out) ⌝ }
     ensures { λ r. ⌜ Wrote (answerTo (settledLeft kind language (now (s .entry)))) r (now (out .entry)) (now (out .exit)) ⌝ }
 {
     match language {
@@ -31,9 +32,9 @@ fn settle(kind: Kind, language: Language, s: &[u8], out: &mut [u8]) -> usize
 
 // Writes a line's answer, with its line feed, over the front of out, and returns its length.
 pub fn answer_line(s: &[u8], out: &mut [u8]) -> usize
-    requires { ⌜ 12321 ≤ length (now out) ⌝ }
+    requires { ⌜ lineRoom ≤ length (now out) ⌝ }
     ensures { λ r. ⌜ (r ≡ length (answerLine (now (s .entry)))) × (now (out .exit) ≡ over (now (out .entry)) (answerLine (now (s .entry)))) ⌝ }
-    ensures { λ r. ⌜ r ≤ 12321 ⌝ }
+    ensures { λ r. ⌜ r ≤ lineRoom ⌝ }
 {
     if LONGEST_LINE < s.len() {
         return bad(out);

@@ -13,6 +13,7 @@ ghost use Rattle.settings.specs.Settings.{ukrainianSettings, ukrainianRanges, w
 ghost use Rattle.phrases_forms.specs.declared.Kind.the-variants.{Card, Ord, Num, Year, Money};
 ghost use Rattle.phrases_forms.specs.declared.Language.the-variants.{Ukrainian as UkrainianLanguage};
 ghost use mathlib.Core.Option.{some};
+ghost use Rattle.base.specs.Room.{lineRoom};
 ghost use Rattle.uk_money_calls.specs.MoneyCalls.{ukToCurrency};
 ghost use Rattle.phrases_answers.specs.Answers.{answerTo, yearText};
 ghost use Rattle.phrases_forms.specs.Cuts.{codeLeft};
@@ -21,7 +22,7 @@ ghost use Rattle.phrases_answers.specs.Wrote.{Wrote};
 
 // A cardinal's form.
 fn card(gender: u32, number: u32, case: u32, s: &[u8], out: &mut [u8]) -> usize
-    requires { ⌜ 12321 ≤ length (now out) ⌝ }
+    requires { ⌜ lineRoom ≤ length (now out) ⌝ }
     ensures { λ r. ⌜ Wrote (answerTo (ukrainianLeft Card (ukrainianSettings gender number case) (now (s .entry)))) r (now (out .entry)) (now (out .exit)) ⌝ }
 {
     if is_closed(s) {
@@ -34,7 +35,7 @@ fn card(gender: u32, number: u32, case: u32, s: &[u8], out: &mut [u8]) -> usize
 
 // An ordinal's.
 fn ord(gender: u32, number: u32, case: u32, s: &[u8], out: &mut [u8]) -> usize
-    requires { ⌜ 12321 ≤ length (now out) ⌝ }
+    requires { ⌜ lineRoom ≤ length (now out) ⌝ }
     ensures { λ r. ⌜ Wrote (answerTo (ukrainianLeft Ord (ukrainianSettings gender number case) (now (s .entry)))) r (now (out .entry)) (now (out .exit)) ⌝ }
 {
     if is_closed(s) {
@@ -47,7 +48,7 @@ fn ord(gender: u32, number: u32, case: u32, s: &[u8], out: &mut [u8]) -> usize
 
 // A digit ordinal's.
 fn num(gender: u32, number: u32, case: u32, s: &[u8], out: &mut [u8]) -> usize
-    requires { ⌜ 12321 ≤ length (now out) ⌝ }
+    requires { ⌜ lineRoom ≤ length (now out) ⌝ }
     ensures { λ r. ⌜ Wrote (answerTo (ukrainianLeft Num (ukrainianSettings gender number case) (now (s .entry)))) r (now (out .entry)) (now (out .exit)) ⌝ }
 {
     if is_closed(s) {
@@ -60,7 +61,7 @@ fn num(gender: u32, number: u32, case: u32, s: &[u8], out: &mut [u8]) -> usize
 
 // A year's text, as a year.
 fn say_year(gender: u32, number: u32, case: u32, text: &[u8], out: &mut [u8]) -> usize
-    requires { ⌜ (within (ukrainianRanges (ukrainianSettings gender number case)) ≡ true) × (12321 ≤ length (now out)) ⌝ }
+    requires { ⌜ (within (ukrainianRanges (ukrainianSettings gender number case)) ≡ true) × (lineRoom ≤ length (now out)) ⌝ }
     ensures { λ r. ⌜ Wrote (answerTo (some (yearText (ukrainianSettings gender number case) (now (text .entry))))) r (now (out .entry)) (now (out .exit)) ⌝ }
 {
     let n = figures::refusals::number_of(figures::refusals::judge_year(text));
@@ -74,7 +75,7 @@ fn say_year(gender: u32, number: u32, case: u32, text: &[u8], out: &mut [u8]) ->
 
 // A year's.
 fn year(gender: u32, number: u32, case: u32, s: &[u8], out: &mut [u8]) -> usize
-    requires { ⌜ (within (ukrainianRanges (ukrainianSettings gender number case)) ≡ true) × (12321 ≤ length (now out)) ⌝ }
+    requires { ⌜ (within (ukrainianRanges (ukrainianSettings gender number case)) ≡ true) × (lineRoom ≤ length (now out)) ⌝ }
     ensures { λ r. ⌜ Wrote (answerTo (ukrainianLeft Year (ukrainianSettings gender number case) (now (s .entry)))) r (now (out .entry)) (now (out .exit)) ⌝ }
 {
     if is_closed(s) {
@@ -86,7 +87,7 @@ fn year(gender: u32, number: u32, case: u32, s: &[u8], out: &mut [u8]) -> usize
 
 // An amount's code, and its text with the closing bracket.
 fn amount(gender: u32, number: u32, case: u32, code: &[u8], t: &[u8], out: &mut [u8]) -> usize
-    requires { ⌜ 12321 ≤ length (now out) ⌝ }
+    requires { ⌜ lineRoom ≤ length (now out) ⌝ }
     ensures { λ r. ⌜ Wrote (answerTo (codeLeft (ukToCurrency (ukrainianSettings gender number case)) (now (code .entry)) (now (t .entry)))) r (now (out .entry)) (now (out .exit)) ⌝ }
 {
     if is_run(code) {
@@ -102,7 +103,7 @@ fn amount(gender: u32, number: u32, case: u32, code: &[u8], t: &[u8], out: &mut 
 
 // An amount's, with the code before the text.
 fn money(gender: u32, number: u32, case: u32, s: &[u8], out: &mut [u8]) -> usize
-    requires { ⌜ 12321 ≤ length (now out) ⌝ }
+    requires { ⌜ lineRoom ≤ length (now out) ⌝ }
     ensures { λ r. ⌜ Wrote (answerTo (ukrainianLeft Money (ukrainianSettings gender number case) (now (s .entry)))) r (now (out .entry)) (now (out .exit)) ⌝ }
 {
     let k = phrases_forms::cut(s);
@@ -113,7 +114,7 @@ fn money(gender: u32, number: u32, case: u32, s: &[u8], out: &mut [u8]) -> usize
 
 // The form of a kind, with settings in their ranges.
 fn form(kind: Kind, gender: u32, number: u32, case: u32, s: &[u8], out: &mut [u8]) -> usize
-    requires { ⌜ (within (ukrainianRanges (ukrainianSettings gender number case)) ≡ true) × (12321 ≤ length (now out)) ⌝ }
+    requires { ⌜ (within (ukrainianRanges (ukrainianSettings gender number case)) ≡ true) × (lineRoom ≤ length (now out)) ⌝ }
     ensures { λ r. ⌜ Wrote (answerTo (ukrainianLeft kind (ukrainianSettings gender number case) (now (s .entry)))) r (now (out .entry)) (now (out .exit)) ⌝ }
 {
     match kind {
@@ -128,7 +129,7 @@ fn form(kind: Kind, gender: u32, number: u32, case: u32, s: &[u8], out: &mut [u8
 
 // A form of which the settings and what follows them are left.
 pub fn settle(kind: Kind, s: &[u8], out: &mut [u8]) -> usize
-    requires { ⌜ 12321 ≤ length (now out) ⌝ }
+    requires { ⌜ lineRoom ≤ length (now out) ⌝ }
     ensures { λ r. ⌜ Wrote (answerTo (settledLeft kind UkrainianLanguage (now (s .entry)))) r (now (out .entry)) (now (out .exit)) ⌝ }
 {
     let w = phrases_forms::settings::ukrainian(s);

@@ -6,11 +6,12 @@ ghost use mathlib.Core.Path.{_≡_};
 ghost use mathlib.Core.Bool.{true};
 ghost use Prim.Native.Nat.{_≤_};
 ghost use lib.ListN.{length, take};
+ghost use Rattle.base.specs.Room.{lineRoom};
 ghost use Rattle.phrases_lines.specs.Held.{isLine};
 
 // Feeds one block, and writes what comes of it as often as out is full.
 fn pass(block: &[u8], line: &mut [u8], n: usize, out: &mut [u8]) -> usize
-    requires { ⌜ (n ≤ 513) × (length (now line) ≡ 513) × (isLine (take n (now line)) ≡ true) × (12321 ≤ length (now out)) ⌝ }
+    requires { ⌜ (n ≤ 513) × (length (now line) ≡ 513) × (isLine (take n (now line)) ≡ true) × (lineRoom ≤ length (now out)) ⌝ }
     ensures { λ r. ⌜ (r ≤ 513) × (isLine (take r (now (line .exit))) ≡ true) ⌝ }
 {
     let mut held = n;
@@ -28,7 +29,7 @@ fn pass(block: &[u8], line: &mut [u8], n: usize, out: &mut [u8]) -> usize
 
 // Reads and passes on until the input ends. A proved loop has to end, so it counts its turns down.
 fn passes(line: &mut [u8], out: &mut [u8]) -> usize
-    requires { ⌜ (length (now line) ≡ 513) × (12321 ≤ length (now out)) ⌝ }
+    requires { ⌜ (length (now line) ≡ 513) × (lineRoom ≤ length (now out)) ⌝ }
     ensures { λ r. ⌜ (r ≤ 513) × (isLine (take r (now (line .exit))) ≡ true) ⌝ }
 {
     let mut block = io::large_buffer();

@@ -2,7 +2,7 @@
 -- Assumes nothing.
 use Prim.Native.Nat.{ℕ}
 use mathlib.Core.Path.{_≡_}
-use mathlib.Core.List.{List, [], _∷_, _++_}
+use mathlib.Core.List.{List, [], _∷_, _++_, flatten}
 use Rattle.base.specs.Divide.{divided}
 use Rattle.base.specs.Signs.{lineFeed}
 use Rattle.phrases_answers.specs.Answers.{answerLine}
@@ -30,3 +30,13 @@ program s = answers (parts s)
 -- be is the answer to all of it
 abbrev pub Answered : List ℕ → List ℕ → List ℕ → List ℕ → Type 0
 Answered p block w q = (rest : List ℕ) → program (p ++ (block ++ rest)) ≡ w ++ program (q ++ rest)
+
+-- blocks that came in one after another from the line so far p on, all that was written to them, and the line so far at their end
+pub data Blocks : List ℕ → List (List ℕ) → List ℕ → List ℕ → Type 0 where
+  none : (p : List ℕ) → Blocks p [] [] p
+  more : (p q r block w v : List ℕ) (bs : List (List ℕ)) → Answered p block w q → Blocks q bs v r → Blocks p (block ∷ bs) (w ++ v) r
+
+-- the program's conclusion: however the input falls into blocks, what was written to them, and then the answer to the line that is left, is what the
+-- program writes to all of it
+abbrev pub WholeInput : Type 0
+WholeInput = (bs : List (List ℕ)) (w q : List ℕ) → Blocks [] bs w q → program (flatten bs) ≡ w ++ program q

@@ -5,13 +5,14 @@ ghost use mathlib.Core.List.{[], _∷_};
 ghost use Prim.Native.Nat.{_+_, _≤_, _<_};
 ghost use lib.ListN.{length, take, drop};
 ghost use Rattle.base.specs.Buffer.{over};
+ghost use Rattle.base.specs.Room.{lineRoom};
 ghost use Rattle.phrases_lines.specs.Program.{program, Answered};
 ghost use Rattle.phrases_lines.specs.Held.{isLine};
 
 // How many bytes of a line are held: one more than the longest has, so that a longer one is known.
 pub const HELD: usize = 513;
 
-// How much room the next answer may need.
+// How much room the next answer may need: `lineRoom`.
 const ROOM: usize = 12321;
 
 // How much of a line is held, and how much was written.
@@ -29,7 +30,7 @@ pub struct Fed {
 
 // One byte, a block of one: at a line's end its answer is written after the first used bytes of out; any other byte joins the line.
 fn take_byte(b: u8, line: &mut [u8], held: usize, out: &mut [u8], used: usize) -> Turn
-    requires { ⌜ (held ≤ 513) × (length (now line) ≡ 513) × (isLine (take held (now line)) ≡ true) × (used + 12321 ≤ length (now out)) ⌝ }
+    requires { ⌜ (held ≤ 513) × (length (now line) ≡ 513) × (isLine (take held (now line)) ≡ true) × (used + lineRoom ≤ length (now out)) ⌝ }
     ensures { λ r. ⌜ (r .held ≤ 513) × (used ≤ r .used) × (r .used ≤ length (now (out .entry))) ⌝ }
     ensures { λ r. ⌜ isLine (take (r .held) (now (line .exit))) ≡ true ⌝ }
     ensures { λ r. ⌜ take used (now (out .exit)) ≡ take used (now (out .entry)) ⌝ }
@@ -59,8 +60,8 @@ pub fn feed(block: &[u8], line: &mut [u8], n: usize, out: &mut [u8]) -> Fed
     ensures { λ r. ⌜ (r .at ≤ length (now (block .entry))) × (r .held ≤ 513) × (r .used ≤ length (now (out .entry))) ⌝ }
     ensures { λ r. ⌜ isLine (take (r .held) (now (line .exit))) ≡ true ⌝ }
     ensures { λ r. ⌜ Answered (take n (now (line .entry))) (take (r .at) (now (block .entry))) (take (r .used) (now (out .exit))) (take (r .held) (now (line .exit))) ⌝ }
-    ensures { λ r. ⌜ (r .at < length (now (block .entry)) → length (now (out .entry)) < r .used + 12321) ⌝ }
-    ensures { λ r. ⌜ (12321 ≤ length (now (out .entry)) → 0 < length (now (block .entry)) → 0 < r .at) ⌝ }
+    ensures { λ r. ⌜ (r .at < length (now (block .entry)) → length (now (out .entry)) < r .used + lineRoom) ⌝ }
+    ensures { λ r. ⌜ (lineRoom ≤ length (now (out .entry)) → 0 < length (now (block .entry)) → 0 < r .at) ⌝ }
 {
     let mut held = n;
     let mut used = 0;
@@ -79,8 +80,8 @@ pub fn feed(block: &[u8], line: &mut [u8], n: usize, out: &mut [u8]) -> Fed
 
 // Answers what is behind the last line feed, where the input has ended.
 pub fn last(line: &[u8], out: &mut [u8]) -> usize
-    requires { ⌜ (12321 ≤ length (now out)) × (isLine (now line) ≡ true) ⌝ }
-    ensures { λ r. ⌜ (r ≡ length (program (now (line .entry)))) × (r ≤ 12321) × (now (out .exit) ≡ over (now (out .entry)) (program (now (line .entry)))) ⌝ }
+    requires { ⌜ (lineRoom ≤ length (now out)) × (isLine (now line) ≡ true) ⌝ }
+    ensures { λ r. ⌜ (r ≡ length (program (now (line .entry)))) × (r ≤ lineRoom) × (now (out .exit) ≡ over (now (out .entry)) (program (now (line .entry)))) ⌝ }
 {
     if line.len() == 0 {
         return 0;

@@ -25,6 +25,9 @@ nominative = 0
 abbrev pub genitive : ℕ
 genitive = 1
 
+abbrev pub dative : ℕ
+dative = 2
+
 abbrev pub accusative : ℕ
 accusative = 3
 

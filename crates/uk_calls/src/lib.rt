@@ -1,4 +1,4 @@
-// Ukrainian cardinals from bytes to bytes, both ways. No phrase has more than 12,320 bytes: the program keeps that much room for an answer.
+// Ukrainian cardinals from bytes to bytes, both ways. No phrase is longer than the room that the program keeps for an answer.
 use base::Answer;
 use base::WRONG_SETTING;
 use settings::Settings;
@@ -11,6 +11,7 @@ ghost use Prim.Native.Nat.{_≤_};
 ghost use lib.ListN.{length};
 ghost use Rattle.base.specs.Answer.{fitted, replied, Answers};
 ghost use Rattle.base.specs.Reading.{Reads as ReadsAs};
+ghost use Rattle.base.specs.Room.{phraseRoom};
 ghost use Rattle.settings.specs.Settings.{ukrainianSettings, ukrainianRanges, Within};
 ghost use Rattle.figures.specs.Text.{wellFormed, unsigned};
 ghost use Rattle.uk_calls.specs.UkCardinals.{ukToCardinal, ukFromCardinal};
@@ -30,7 +31,7 @@ fn refuse(gender: u32, number: u32, case: u32, text: &[u8]) -> u32
 fn spell(settings: Settings, text: &[u8], out: &mut [u8]) -> Answer
     requires { ⌜ Within (ukrainianRanges settings) × (wellFormed (now text) ≡ true) × (length (unsigned (now text)) ≤ 66) ⌝ }
     ensures { λ r. ⌜ Answers r (now (out .entry)) (now (out .exit)) (fitted (now (out .entry)) (ukToCardinal settings (now (text .entry)) .phrase)) ⌝ }
-    ensures { λ r. ⌜ r .length ≤ 12320 ⌝ }
+    ensures { λ r. ⌜ r .length ≤ phraseRoom ⌝ }
 {
     let zero = figures::is_zero(text);
     let minus = figures::is_negative(text);
@@ -54,7 +55,7 @@ fn read(settings: Settings, said: &[u8], out: &mut [u8]) -> Answer
 // The cardinal of a number text.
 pub fn to_cardinal(gender: u32, number: u32, case: u32, text: &[u8], out: &mut [u8]) -> Answer
     ensures { λ r. ⌜ Answers r (now (out .entry)) (now (out .exit)) (replied (ukToCardinal (ukrainianSettings gender number case) (now (text .entry))) (now (out .entry))) ⌝ }
-    ensures { λ r. ⌜ r .length ≤ 12320 ⌝ }
+    ensures { λ r. ⌜ r .length ≤ phraseRoom ⌝ }
 {
     let n = refuse(gender, number, case, text);
     if n == 0 {

@@ -1,5 +1,5 @@
-// Ukrainian money from bytes to bytes, both ways: settings, code, text, sign, size and room are checked in 01's order. No phrase has more than
-// 12,320 bytes: the program keeps that much room for an answer.
+// Ukrainian money from bytes to bytes, both ways: settings, code, text, sign, size and room are checked in 01's order. No phrase is longer than
+// the room that the program keeps for an answer.
 use base::Answer;
 use base::NO_SENTENCE;
 use base::WRONG_CODE;
@@ -14,6 +14,7 @@ ghost use mathlib.Core.Path.{_≡_};
 ghost use mathlib.Core.Option.{some};
 ghost use Rattle.base.specs.Answer.{fitted, replied, Answers};
 ghost use Rattle.base.specs.Reading.{Reads as ReadsAs};
+ghost use Rattle.base.specs.Room.{phraseRoom};
 ghost use Rattle.settings.specs.Settings.{ukrainianSettings, ukrainianRanges, Within};
 ghost use Rattle.figures.specs.Money.{wholeOf, hundredthsOf};
 ghost use Rattle.figures.specs.Refusals.{amountRefusals, Admitted};
@@ -25,7 +26,7 @@ ghost use Rattle.uk_money_calls.specs.MoneyCalls.{ukToCurrency, amountRe
 fn spell(settings: Settings, currency: usize, text: &[u8], out: &mut [u8]) -> Answer
     requires { ⌜ Within (ukrainianRanges settings) × (currency < 44) × Admitted (amountRefusals (now text)) ⌝ }
     ensures { λ r. ⌜ Answers r (now (out .entry)) (now (out .exit)) (fitted (now (out .entry)) (amountPhrase settings (currencyAt currency) (wholeOf (now (text .entry))) (hundredthsOf (now (text .entry))))) ⌝ }
-    ensures { λ r. ⌜ r .length ≤ 12320 ⌝ }
+    ensures { λ r. ⌜ r .length ≤ phraseRoom ⌝ }
 {
     let whole = figures::money::whole_part(text);
     let zero = figures::is_zero(whole);
@@ -62,7 +63,7 @@ pub fn to_currency(
     out: &mut [u8],
 ) -> Answer
     ensures { λ r. ⌜ Answers r (now (out .entry)) (now (out .exit)) (replied (ukToCurrency (ukrainianSettings gender number case) (now (code .entry)) (now (text .entry))) (now (out .entry))) ⌝ }
-    ensures { λ r. ⌜ r .length ≤ 12320 ⌝ }
+    ensures { λ r. ⌜ r .length ≤ phraseRoom ⌝ }
 {
     if settings::is_ukrainian(gender, number, case) {
         let currency = uk_money::code_of(code);

@@ -9,6 +9,7 @@ ghost use Prim.Native.Nat.{_≤_, _<_};
 ghost use lib.ListN.{length};
 ghost use Rattle.base.specs.Buffer.{over};
 ghost use Rattle.base.specs.Answer.{fitted, Answers};
+ghost use Rattle.base.specs.Room.{phraseRoom};
 ghost use Rattle.settings.specs.Settings.{ukrainianRanges, Within};
 ghost use Rattle.words.specs.Part.{part};
 ghost use Rattle.uk_ordinal.specs.Pool.{shortPool};
@@ -50,7 +51,7 @@ fn put(text: &[u8], ending: u16, out: &mut [u8]) -> usize
 pub fn say(settings: Settings, text: &[u8], out: &mut [u8]) -> Answer
     requires { ⌜ Within (ukrainianRanges settings) × (digits (now text) ≡ true) × (0 < length (now text)) × (length (now text) ≤ 39) ⌝ }
     ensures { λ r. ⌜ Answers r (now (out .entry)) (now (out .exit)) (fitted (now (out .entry)) (digitOrdinal settings (now (text .entry)))) ⌝ }
-    ensures { λ r. ⌜ r .length ≤ 12320 ⌝ }
+    ensures { λ r. ⌜ r .length ≤ phraseRoom ⌝ }
 {
     let ending = uk_ordinal::short_ending(settings, is_soft(text));
     let n = text.len() + 1;

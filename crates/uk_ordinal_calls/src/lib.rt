@@ -1,5 +1,4 @@
-// Ukrainian ordinals, digit ordinals and years from bytes to bytes. No phrase has more than 12,320 bytes: the program keeps that much room for an
-// answer.
+// Ukrainian ordinals, digit ordinals and years from bytes to bytes. No phrase is longer than the room that the program keeps for an answer.
 mod digits; // digits.rt: digit ordinals
 
 use base::Answer;
@@ -14,6 +13,7 @@ ghost use mathlib.Core.Bool.{true};
 ghost use Prim.Native.Nat.{_≤_};
 ghost use lib.ListN.{length};
 ghost use Rattle.base.specs.Answer.{fitted, replied, Answers};
+ghost use Rattle.base.specs.Room.{phraseRoom};
 ghost use Rattle.figures.specs.Text.{plain};
 ghost use Rattle.settings.specs.Settings.{ukrainianSettings, ukrainianRanges, Within};
 ghost use Rattle.uk_ordinal.specs.Year.{early};
@@ -52,7 +52,7 @@ fn refuse_digit_ordinal(gender: u32, number: u32, case: u32, text: &[u8]) -> u32
 fn say_ordinal(settings: Settings, text: &[u8], out: &mut [u8]) -> Answer
     requires { ⌜ Within (ukrainianRanges settings) × (plain (now text) ≡ true) × (length (now text) ≤ 66) ⌝ }
     ensures { λ r. ⌜ Answers r (now (out .entry)) (now (out .exit)) (fitted (now (out .entry)) (ukToOrdinal settings (now (text .entry)) .phrase)) ⌝ }
-    ensures { λ r. ⌜ r .length ≤ 12320 ⌝ }
+    ensures { λ r. ⌜ r .length ≤ phraseRoom ⌝ }
 {
     let gs = groups::groups22(text);
     let mut plan = [0u32; PLAN];
@@ -64,7 +64,7 @@ fn say_ordinal(settings: Settings, text: &[u8], out: &mut [u8]) -> Answer
 fn say_year(settings: Settings, year: i64, out: &mut [u8]) -> Answer
     requires { ⌜ Within (ukrainianRanges settings) ⌝ }
     ensures { λ r. ⌜ Answers r (now (out .entry)) (now (out .exit)) (fitted (now (out .entry)) (ukToYear settings year .phrase)) ⌝ }
-    ensures { λ r. ⌜ r .length ≤ 12320 ⌝ }
+    ensures { λ r. ⌜ r .length ≤ phraseRoom ⌝ }
 {
     let mut gs = [0u16; ORDERS];
     let k = groups::groups_from(figures::year::magnitude(year), &mut gs);
@@ -76,7 +76,7 @@ fn say_year(settings: Settings, year: i64, out: &mut [u8]) -> Answer
 // The ordinal of a number text.
 pub fn to_ordinal(gender: u32, number: u32, case: u32, text: &[u8], out: &mut [u8]) -> Answer
     ensures { λ r. ⌜ Answers r (now (out .entry)) (now (out .exit)) (replied (ukToOrdinal (ukrainianSettings gender number case) (now (text .entry))) (now (out .entry))) ⌝ }
-    ensures { λ r. ⌜ r .length ≤ 12320 ⌝ }
+    ensures { λ r. ⌜ r .length ≤ phraseRoom ⌝ }
 {
     let n = refuse_ordinal(gender, number, case, text);
     if n == 0 {
@@ -89,7 +89,7 @@ pub fn to_ordinal(gender: u32, number: u32, case: u32, text: &[u8], out: &mut [u
 // The digit ordinal of a number text.
 pub fn to_ordinal_num(gender: u32, number: u32, case: u32, text: &[u8], out: &mut [u8]) -> Answer
     ensures { λ r. ⌜ Answers r (now (out .entry)) (now (out .exit)) (replied (ukToOrdinalNum (ukrainianSettings gender number case) (now (text .entry))) (now (out .entry))) ⌝ }
-    ensures { λ r. ⌜ r .length ≤ 12320 ⌝ }
+    ensures { λ r. ⌜ r .length ≤ phraseRoom ⌝ }
 {
     let n = refuse_digit_ordinal(gender, number, case, text);
     if n == 0 {
@@ -102,7 +102,7 @@ pub fn to_ordinal_num(gender: u32, number: u32, case: u32, text: &[u8], out: &mu
 // The phrase of a year.
 pub fn to_year(gender: u32, number: u32, case: u32, year: i64, out: &mut [u8]) -> Answer
     ensures { λ r. ⌜ Answers r (now (out .entry)) (now (out .exit)) (replied (ukToYear (ukrainianSettings gender number case) year) (now (out .entry))) ⌝ }
-    ensures { λ r. ⌜ r .length ≤ 12320 ⌝ }
+    ensures { λ r. ⌜ r .length ≤ phraseRoom ⌝ }
 {
     if settings::is_ukrainian(gender, number, case) {
         say_year(settings::ukrainian(gender, number, case), year, out)

@@ -5,6 +5,7 @@ use mathlib.Core.Path.{_≡_, refl, _∙_}
 use mathlib.Core.Bool.{true}
 use native.Mathlib.Omega.{arith}
 use lib.ListN.{length, take}
+use Rattle.base.specs.Room.{lineRoom}
 use Rattle.phrases_lines.specs.Program.{Answered}
 use Rattle.phrases_lines.specs.Held.{isLine}
 use Rattle.phrases_lines.proofs.Laws.{one-more}
@@ -22,7 +23,7 @@ loop-holds : tie.Need-loop-holds Inv-loop μ-loop
 loop-holds c = (omega arith, omega arith, refl, omega arith, refl, c .before .before .before .pre .2, (λ rest. refl), λ z. refl)
 
 -- where nothing was written and there is room for an answer, the first byte is read
-front-read : (at used room : ℕ) → (at ≡ 0 → used ≡ 0) → 12321 ≤ room → room - used < 12321 → 0 < at
+front-read : (at used room : ℕ) → (at ≡ 0 → used ≡ 0) → lineRoom ≤ room → room - used < lineRoom → 0 < at
 front-read zero used room z h k = let e = z refl in absurd (omega (arith, e))
 front-read (suc at) used room z h k = omega arith
 
