@@ -2,12 +2,11 @@
 -- Assumes nothing.
 use Prim.Native.Nat.{ℕ, zero, suc, _<_}
 use mathlib.Core.Path.{_≡_, refl}
-use mathlib.Core.Bool.{Bool, true, false, cond, _&&_}
+use mathlib.Core.Bool.{Bool, true, false, cond}
 use native.Mathlib.Omega.{arith}
-use lib.Dec.{eqb}
-use Rattle.settings.specs.Settings.{masculine, feminine, ukrainianRanges, Within, inGender}
+use Rattle.settings.specs.Settings.{masculine, feminine, singular, plural, genitive, ukrainianRanges, Within, inGender}
 use Rattle.settings.specs.declared.Settings.{Settings}
-use Rattle.uk.specs.Ukrainian.{atOrder, many, agreedNumber, agreedCase, agreed}
+use Rattle.uk.specs.Ukrainian.{atOrder, agreedNumber, agreedCase, agreed}
 
 pub at-one : (k : ℕ) (S : Settings) → k ≡ 1 → inGender feminine S ≡ atOrder k S
 at-one k S e = rw e refl
@@ -26,20 +25,16 @@ ordered zero S w = w
 ordered (suc zero) S w = gendered 1 S (omega arith) w
 ordered (suc (suc k)) S w = gendered 0 S (omega arith) w
 
+-- one of two numbers, whatever chooses it
+either-below : (b : Bool) (x y k : ℕ) → x < k → y < k → cond b x y < k
+either-below true x y k p q = p
+either-below false x y k p q = q
+
 agreed-number : (t u : ℕ) → agreedNumber t u < 2
-agreed-number t u = go (many t u) (eqb u 1)
-  where
-    go : (a b : Bool) → cond a 1 (cond b 0 1) < 2
-    go true b = omega arith
-    go false true = omega arith
-    go false false = omega arith
+agreed-number t u = let p : plural < 2 = omega arith in let q : singular < 2 = omega arith in search (either-below, p, q)
 
 agreed-case : (S : Settings) (t u : ℕ) → S .case < 6 → agreedCase S t u < 6
-agreed-case S t u h = go (many t u && eqb (S .case) 0)
-  where
-    go : (a : Bool) → cond a 1 (S .case) < 6
-    go true = omega arith
-    go false = h
+agreed-case S t u h = let p : genitive < 6 = omega arith in search (either-below, p, h)
 
 pub agrees : (t u : ℕ) (S : Settings) → Within (ukrainianRanges S) → Within (ukrainianRanges (agreed t u S))
 agrees t u S w = (w .0, (agreed-number t u, (agreed-case S t u (w .1 .1 .0), tt)))
