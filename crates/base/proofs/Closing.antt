@@ -11,7 +11,7 @@ use lib.Dec.{ltb}
 use lib.ListN.{length}
 use Rattle.base.specs.Answer.{noSentence, noRoom, Spelling, Reply, refused, bytes, fitted, unless, replied, Answers}
 use Rattle.base.specs.Reading.{Reading, Replies, earlier, sentence, otherwise, Reads}
-use Rattle.base.specs.Claim.{AnswersText, Fits, Inverse}
+use Rattle.base.specs.Claim.{GivesText, Fits, GivesNoRoom, GivesNoSentence, Inverse}
 use Rattle.base.specs.declared.Answer.{Answer}
 
 -- of one kind: the phrase of every admitted text is a sentence with that text as its value; a sentence's value is admitted, and is spelled as that very
@@ -27,21 +27,21 @@ fits xs t l = rw (le-ltb (length xs) (length t) l) refl
 
 -- what a reading call that refuses nothing before the phrase may answer
 data Known (from : Reading) (s : List ℕ) (r : Answer) (xs ys : List ℕ) : Type 0 where
-  text : (t : List ℕ) → Fits from s xs t → AnswersText r xs ys t → Known from s r xs ys
-  short : (t : List ℕ) → from .Means s t → length xs < length t → Answers r xs ys (refused noRoom (length t)) → Known from s r xs ys
-  none : ((t : List ℕ) → from .Means s t → ⊥) → Answers r xs ys (refused noSentence 0) → Known from s r xs ys
+  text : (t : List ℕ) → Fits from s xs t → GivesText r xs ys t → Known from s r xs ys
+  short : GivesNoRoom from s r xs ys → Known from s r xs ys
+  none : GivesNoSentence from s r xs ys → Known from s r xs ys
 
 known : (from : Reading) (s : List ℕ) (r : Answer) (xs ys : List ℕ) → from .refusal ≡ 0 → Reads from s r xs ys → Known from s r xs ys
-known from s r xs ys valid p = go (p .replies) (p .answers)
+known from s r xs ys valid p = go (p .isReply) (p .isAnswer)
   where
     fitting : (t : List ℕ) → from .Means s t → (b : Bool) → ltb (length xs) (length t) ≡ b → Answers r xs ys (cond b (refused noRoom (length t)) (bytes t)) → Known from s r xs ys
-    fitting t m true e a = short t m (ltb-true (length xs) (length t) e) a
+    fitting t m true e a = short (t, m, ltb-true (length xs) (length t) e, a)
     fitting t m false e a = text t (m, omega (arith, ltb-false (length xs) (length t) e)) a
 
     go : {reply : Reply} → Replies from s xs reply → Answers r xs ys reply → Known from s r xs ys
     go (earlier f) a = absurd (f valid)
     go (sentence z t m) a = fitting t m (ltb (length xs) (length t)) refl a
-    go (otherwise z f) a = none f a
+    go (otherwise z f) a = none (f, a)
 
 -- a spelling call that replies with bytes refuses nothing, and they are its phrase
 spoken : (n : ℕ) (zs p s : List ℕ) → unless n (fitted zs p) ≡ bytes s → (n ≡ 0) × (p ≡ s)
@@ -60,23 +60,22 @@ module _ {IsAdmitted : List ℕ → Type 0} {to : List ℕ → Spelling} {from :
     (R : Readable IsAdmitted (λ (t : List ℕ). to t .phrase) (from .Means)) where
   -- what is answered to a sentence
   value : {s xs ys : List ℕ} {r : Answer} → Reads from s r xs ys → (t : List ℕ) → from .Means s t → Answers r xs ys (fitted xs t)
-  value {s} {xs} {ys} {r} p t m = go (p .replies) (p .answers)
+  value {s} {xs} {ys} {r} p t m = go (p .isReply) (p .isAnswer)
     where
       go : {reply : Reply} → Replies from s xs reply → Answers r xs ys reply → Answers r xs ys (fitted xs t)
       go (earlier f) a = absurd (f valid)
       go (sentence z u n) a = subst (λ (v : List ℕ). Answers r xs ys (fitted xs v)) (R .oneValue s u t n m) a
       go (otherwise z f) a = absurd (f t m)
 
-  text-is : {s xs ys : List ℕ} {r : Answer} → Known from s r xs ys → r .number ≡ 0 → (t : List ℕ) × Fits from s xs t × AnswersText r xs ys t
+  text-is : {s xs ys : List ℕ} {r : Answer} → Known from s r xs ys → r .number ≡ 0 → (t : List ℕ) × Fits from s xs t × GivesText r xs ys t
   text-is (text t m a) z = (t, m, a)
-  text-is (short t m l a) z = absurd (omega (arith, z, a .reported))
-  text-is (none f a) z = absurd (omega (arith, z, a .reported))
+  text-is (short p) z = absurd (omega (arith, z, p .3 .reported))
+  text-is (none p) z = absurd (omega (arith, z, p .1 .reported))
 
-  otherwise-is : {s xs ys : List ℕ} {r : Answer} → Known from s r xs ys → (r .number ≡ 0 → ⊥)
-      → ((t : List ℕ) × from .Means s t × (length xs < length t) × Answers r xs ys (refused noRoom (length t))) ⊎ (((t : List ℕ) → from .Means s t → ⊥) × Answers r xs ys (refused noSentence 0))
+  otherwise-is : {s xs ys : List ℕ} {r : Answer} → Known from s r xs ys → (r .number ≡ 0 → ⊥) → GivesNoRoom from s r xs ys ⊎ GivesNoSentence from s r xs ys
   otherwise-is (text t m a) z = absurd (z (a .reported))
-  otherwise-is (short t m l a) z = inl (t, m, l, a)
-  otherwise-is (none f a) z = inr (f, a)
+  otherwise-is (short p) z = inl p
+  otherwise-is (none p) z = inr p
 
   respelled : (s t : List ℕ) → from .Means s t → (zs : List ℕ) → length s ≤ length zs → replied (to t) zs ≡ bytes s
   respelled s t m zs l =
@@ -85,13 +84,13 @@ module _ {IsAdmitted : List ℕ → Type 0} {to : List ℕ → Spelling} {from :
 
   pub closed : Inverse IsAdmitted to from
   closed = record {
-    answered = λ {s} {xs} {ys} {r} p. text-is (known from s r xs ys valid p);
-    answers = λ {s} {xs} {ys} {r} p t m. subst (Answers r xs ys) (fits xs t (m .1)) (value p t (m .0));
-    otherwise = λ {s} {xs} {ys} {r} p. otherwise-is (known from s r xs ys valid p);
-    spelled = λ s t m. (R .respelled s t m .0, respelled s t m);
-    alone = λ s t u zs m e.
+    ifAnswered = λ {s} {xs} {ys} {r} p. text-is (known from s r xs ys valid p);
+    answersIf = λ {s} {xs} {ys} {r} p t m. subst (Answers r xs ys) (fits xs t (m .1)) (value p t (m .0));
+    otherwiseGives = λ {s} {xs} {ys} {r} p. otherwise-is (known from s r xs ys valid p);
+    spelledAs = λ s t m. (R .respelled s t m .0, respelled s t m);
+    noOther = λ s t u zs m e.
         let p = spoken (to u .refusal) zs (to u .phrase) s e in
         R .oneValue s u t (subst (λ (x : List ℕ). from .Means x u) (p .1) (R .spelled u (admits u (p .0)))) m;
-    sentence = λ t a. (passes t a, R .spelled t a);
-    read = λ t a p. value p t (R .spelled t a);
+    isSentence = λ t a. (passes t a, R .spelled t a);
+    readAs = λ t a p. value p t (R .spelled t a);
   }

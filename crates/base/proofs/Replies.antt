@@ -26,4 +26,4 @@ heard r xs ys e a = rw (← e) a
 
 -- a reading call's refusal that comes before the phrase's
 pub refuses-first : (R : Reading) (s : List ℕ) (r : Answer) (xs : List ℕ) (n : ℕ) → (r .number ≡ n) × (r .length ≡ 0) → R .refusal ≡ n → (n ≡ 0 → ⊥) → Reads R s r xs xs
-refuses-first R s r xs n a e z = record { reply = refused (R .refusal) 0; replies = earlier (λ f. z (sym e ∙ f)); answers = refuses (a .0 ∙ sym e, a .1) }
+refuses-first R s r xs n a e z = record { reply = refused (R .refusal) 0; isReply = earlier (λ f. z (sym e ∙ f)); isAnswer = refuses (a .0 ∙ sym e, a .1) }

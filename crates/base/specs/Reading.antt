@@ -21,5 +21,5 @@ pub data Replies (R : Reading) (s xs : List ℕ) : Reply → Type 0 where
 -- the answer r to the phrase s, with the buffer xs left as ys, is such a reply
 pub record Reads (R : Reading) (s : List ℕ) (r : Answer) (xs ys : List ℕ) : Type 0 where
   pub reply : Reply
-  pub replies : Replies R s xs reply
-  pub answers : Answers r xs ys reply
+  pub isReply : Replies R s xs reply
+  pub isAnswer : Answers r xs ys reply

@@ -34,12 +34,12 @@ module _ (Says : List ℕ → Bool → ℕ → Type 0) (refusal : ℕ) (valid : 
   some : (m : Bool) → Says s m (total gs) → Answers r xs ys (fitted xs (signedDecimal m (total gs))) → Reads reading s r xs ys
   some m p a = record {
     reply = fitted xs (signedDecimal m (total gs));
-    replies = sentence valid (signedDecimal m (total gs)) (record { minus = m; magnitude = total gs; says = p; valued = number-text m (total gs) (b .small p) (signed m p) });
-    answers = a;
+    isReply = sentence valid (signedDecimal m (total gs)) (record { minus = m; magnitude = total gs; says = p; valued = number-text m (total gs) (b .small p) (signed m p) });
+    isAnswer = a;
   }
 
   pub read-right : (seen : Seen) → ReadOf (Says s) seen gs → Answers r xs ys (answered seen (total gs) xs) → Reads reading s r xs ys
-  read-right Refused p a = record { reply = refused noSentence 0; replies = otherwise valid (λ t m. p .refuses refl (m .minus) (m .magnitude) (m .says)); answers = a }
+  read-right Refused p a = record { reply = refused noSentence 0; isReply = otherwise valid (λ t m. p .refuses refl (m .minus) (m .magnitude) (m .says)); isAnswer = a }
   read-right Plain p a = some false (p .reads refl) a
   read-right Negative p a = some true (p .reads refl) a
 

@@ -29,7 +29,7 @@ module _ (S : Settings) (c : Currency) (valid : amountReading S (some c) .refusa
   Right = Reads (amountReading S (some c)) s r xs ys
 
   pub seen-none : ReadMoney S c s Refused gs → Answers r xs ys (refused noSentence 0) → Right
-  seen-none p a = record { reply = refused noSentence 0; replies = otherwise valid (λ t m. p .refuses refl (m .whole) (m .hundredths) (m .says)); answers = a }
+  seen-none p a = record { reply = refused noSentence 0; isReply = otherwise valid (λ t m. p .refuses refl (m .whole) (m .hundredths) (m .says)); isAnswer = a }
 
   pub seen-some : (h : ℕ) → ReadMoney S c s (Amount h) gs → Answers r xs ys (fitted xs (moneyDecimal (total gs) h)) → Right
   seen-some h p a =
@@ -37,6 +37,6 @@ module _ (S : Settings) (c : Currency) (valid : amountReading S (some c) .refusa
       let l = amount-said S c q in
       record {
         reply = fitted xs (moneyDecimal (total gs) h);
-        replies = sentence valid (moneyDecimal (total gs) h) (record { whole = total gs; hundredths = h; says = q; valued = amount-text (total gs) h (money-small (l .0)) (l .1) });
-        answers = a;
+        isReply = sentence valid (moneyDecimal (total gs) h) (record { whole = total gs; hundredths = h; says = q; valued = amount-text (total gs) h (money-small (l .0)) (l .1) });
+        isAnswer = a;
       }

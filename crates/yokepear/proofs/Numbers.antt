@@ -17,7 +17,7 @@ use Rattle.settings.specs.Refused.{outOfRange}
 use Rattle.figures.specs.Refusals.{ukrainianDigitLimit, frenchDigitLimit, cardinalRefusals, ordinalRefusals, digitOrdinalRefusals, amountRefusals}
 use Rattle.uk_money.specs.Currencies.{Currency}
 use Rattle.uk_money.specs.Codes.{currencyOf, unknown}
-use Rattle.yokepear.specs.Calls.{SpellingCall, spellingOf, readingOf, toCardinal, toOrdinal, toOrdinalNum, toYear, toCurrency, toFrenchCardinal, toFrenchOrdinal, ReadingCall, fromCardinal, fromCurrency, fromFrenchCardinal, fromFrenchOrdinal, Called, spelled, read, OneOf}
+use Rattle.yokepear.specs.Calls.{SpellingCall, spellingOf, readingOf, toCardinal, toOrdinal, toOrdinalNum, toYear, toCurrency, toFrenchCardinal, toFrenchOrdinal, ReadingCall, fromCardinal, fromCurrency, fromFrenchCardinal, fromFrenchOrdinal, Called, bySpelling, byReading, OneOf}
 
 -- what holds of 0, 7 and the numbers of the conditions that a call names holds of the number that it answers with
 module _ (P : ℕ → Type 0) (none-is : P 0) (room-is : P noRoom) where
@@ -82,10 +82,10 @@ spelling-never-6 call r xs ys a = rw (a .reported) (spelling-is (λ (n : ℕ). n
 -- "Reading gives 1, 2, 6 or 7 only", where it refuses
 pub reading-gives : (call : ReadingCall) (s : List ℕ) (r : Answer) (xs ys : List ℕ) → Reads (readingOf call) s r xs ys → OneOf (0 ∷ wrongSetting ∷ wrongCode ∷ noSentence ∷ noRoom ∷ []) (r .number)
 reading-gives call s r xs ys p =
-    rw (p .answers .reported)
-    (reading-is (OneOf (0 ∷ wrongSetting ∷ wrongCode ∷ noSentence ∷ noRoom ∷ [])) (inl refl) (inr (inr (inr (inr (inl refl))))) (inr (inl refl)) (inr (inr (inl refl))) (inr (inr (inr (inl refl)))) call (p .replies))
+    rw (p .isAnswer .reported)
+    (reading-is (OneOf (0 ∷ wrongSetting ∷ wrongCode ∷ noSentence ∷ noRoom ∷ [])) (inl refl) (inr (inr (inr (inr (inl refl))))) (inr (inl refl)) (inr (inr (inl refl))) (inr (inr (inr (inl refl)))) call (p .isReply))
 
 -- every call's number is one of the table, or 0
 pub number-known : (r : Answer) (xs ys : List ℕ) → Called r xs ys → r .number ≤ noRoom
-number-known r xs ys (spelled call a) = rw (a .reported) (spelling-is (λ (n : ℕ). n ≤ noRoom) (omega arith) (omega arith) (omega arith) (omega arith) (omega arith) (omega arith) (omega arith) call xs)
-number-known r xs ys (read call s p) = rw (p .answers .reported) (reading-is (λ (n : ℕ). n ≤ noRoom) (omega arith) (omega arith) (omega arith) (omega arith) (omega arith) call (p .replies))
+number-known r xs ys (bySpelling call a) = rw (a .reported) (spelling-is (λ (n : ℕ). n ≤ noRoom) (omega arith) (omega arith) (omega arith) (omega arith) (omega arith) (omega arith) (omega arith) call xs)
+number-known r xs ys (byReading call s p) = rw (p .isAnswer .reported) (reading-is (λ (n : ℕ). n ≤ noRoom) (omega arith) (omega arith) (omega arith) (omega arith) (omega arith) call (p .isReply))

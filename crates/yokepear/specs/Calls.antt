@@ -50,8 +50,8 @@ readingOf (fromFrenchOrdinal feminine reformed region) = frFromOrdinal (frenchSe
 
 -- the answer r, with the buffer xs left as ys, is one that the contract of some call allows
 pub data Called (r : Answer) (xs ys : List ℕ) : Type 0 where
-  spelled : (call : SpellingCall) → Answers r xs ys (replied (spellingOf call) xs) → Called r xs ys
-  read : (call : ReadingCall) (s : List ℕ) → Reads (readingOf call) s r xs ys → Called r xs ys
+  bySpelling : (call : SpellingCall) → Answers r xs ys (replied (spellingOf call) xs) → Called r xs ys
+  byReading : (call : ReadingCall) (s : List ℕ) → Reads (readingOf call) s r xs ys → Called r xs ys
 
 -- n is one of these
 abbrev pub OneOf : List ℕ → ℕ → Type 0
