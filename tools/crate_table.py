@@ -1,5 +1,5 @@
 #!/usr/bin/env python3
-"""Writes the table of crates into docs/PROMISES.md: seconds of the check from a log of `rt ci`, given as the argument, and lines."""
+"""Writes the table of crates into docs/TABLES.md: seconds of the check from a log of `rt ci`, given as the argument, and lines."""
 import pathlib
 import re
 import sys
@@ -31,7 +31,7 @@ for line in (root / "crates.txt").read_text().splitlines():
     rows.append(f"| {crate} | " + " | ".join(map(str, counts)) + " |\n")
 rows.append("| all | " + " | ".join(map(str, totals)) + " |\n")
 
-page = root / "docs" / "PROMISES.md"
+page = root / "docs" / "TABLES.md"
 before, after = page.read_text().split(head)
 rest = after.splitlines(keepends=True)
 while rest and rest[0].startswith("|"):

@@ -1,5 +1,5 @@
 #!/usr/bin/env python3
-"""Writes the table of must-fail edits into docs/PROMISES.md, from the first line of each edit."""
+"""Writes the table of must-fail edits into docs/TABLES.md, from the first line of each edit."""
 import pathlib
 
 root = pathlib.Path(__file__).resolve().parent.parent
@@ -13,7 +13,7 @@ def row(edit):
     return f"| {edit.parent.parent.name} | {edit.stem} | {first[2:]} |\n"
 
 
-page = root / "docs" / "PROMISES.md"
+page = root / "docs" / "TABLES.md"
 before, after = page.read_text().split(head)
 rest = after.splitlines(keepends=True)
 while rest and rest[0].startswith("|"):
