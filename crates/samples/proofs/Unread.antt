@@ -1,22 +1,39 @@
--- A phrase that is no sentence: what is made of it is the only figure that it could mean, and that figure has another phrase.
+-- A phrase that a reader refuses: what the reader makes of it is the only figure that it could mean, and that figure has another phrase.
 -- Assumes nothing.
-use Prim.Native.Nat.{ℕ}
-use mathlib.Core.Path.{_≡_, sym, _∙_}
-use mathlib.Core.Bool.{Bool}
-use mathlib.Core.List.{List}
-use Rattle.settings.specs.Settings.{ukrainianRanges, Within}
-use Rattle.settings.specs.declared.Settings.{Settings}
-use Rattle.tokens.specs.Tokens.{split}
+use Prim.Native.Nat.{ℕ, zero, suc, _*_}
+use mathlib.Core.Path.{_≡_, refl, sym, ap, _∙_}
+use mathlib.Core.Bool.{Bool, false}
+use mathlib.Core.List.{List, []}
+use native.Mathlib.Omega.{arith}
+use Rattle.base.specs.Answer.{noSentence, refused}
+use Rattle.base.specs.Join.{Word}
+use Rattle.base.specs.Reading.{Replies, otherwise}
+use Rattle.base.specs.Same.{sameText}
+use Rattle.base.proofs.Same.{same-not}
 use Rattle.figures.specs.Groups.{total}
+use Rattle.figures.specs.Value.{NumberMeans}
+use Rattle.cardinals.specs.Lexicon.{Lexicon}
 use Rattle.cardinals.specs.Cardinal.{cardinalPhrase}
+use Rattle.cardinals.specs.Grammar.{Says}
 use Rattle.cardinals.proofs.Numbers.{said}
-use Rattle.uk.specs.Ukrainian.{ukrainian}
-use Rattle.uk_read.specs.Reading.{sums, signed, afterMinus}
-use Rattle.uk_read.proofs.Compared.{made}
-use Rattle.uk_calls.specs.UkCardinals.{UkCardinalMeans}
+use Rattle.uk_read.specs.Reading.{Taken, taken, sums}
+use Rattle.uk_read.proofs.Taking.{closed}
+use Rattle.uk_read.proofs.Falls.{sums-taken, sums-over}
 
-pub no-sentence : (S : Settings) (s : List ℕ) (m : Bool) (n : ℕ) → Within (ukrainianRanges S) → signed (split s) ≡ m → total (sums 22 (afterMinus (split s))) ≡ n
-    → (cardinalPhrase (ukrainian S) m n ≡ s → ⊥) → (t : List ℕ) → UkCardinalMeans S s t → ⊥
-no-sentence S s m n v em en f t p =
-    let r = made S v s (p .minus) (p .magnitude) (p .says) in
-    f (rw (sym em ∙ r .0, sym en ∙ r .1) (said (ukrainian S) (p .says) .1))
+-- in any language: the guess m and h is right wherever the bytes s are a sentence, and h is n, whose phrase is another
+pub no-sentence : {L : Lexicon} {s : List ℕ} {m : Bool} {h n : ℕ} → ((k : Bool) (l : ℕ) → Says L s k l → (m ≡ k) × (h ≡ l)) → h ≡ n
+    → sameText (cardinalPhrase L m n) s ≡ false → (xs : List ℕ) → Replies (record { refusal = 0; Means = λ (s t : List ℕ). NumberMeans (Says L s) t }) s xs (refused noSentence 0)
+no-sentence {L} {s} {m = m} {n = n} right a e xs = otherwise refl other
+  where
+    other : (t : List ℕ) → NumberMeans (Says L s) t → ⊥
+    other t p =
+        let r = right (p .minus) (p .magnitude) (p .says) in
+        same-not (cardinalPhrase L m n) s e (rw (r .0, sym a ∙ r .1) (said L (p .says) .1))
+
+-- of Ukrainian thousands alone their number is made
+pub thousands : (ws : List Word) (v : ℕ) → taken 0 ws ≡ closed v 1 [] → (k : ℕ) → total (sums (suc (suc k)) ws) ≡ v * 1000
+unfolding sums taken
+thousands ws v e zero = sums-taken 1 ws v [] e .0 ∙ omega arith
+thousands ws v e (suc k) =
+    let o : taken 0 ws .order ≡ 1 = ap (λ (t : Taken). t .order) e in
+    sums-over (suc (suc k)) ws (λ z. omega arith) .0 ∙ thousands ws v e k
