@@ -38,6 +38,7 @@ pub record Inverse (IsAdmitted : List ℕ → Type 0) (to : List ℕ → Spellin
   -- "and no other admitted text so"
   pub noOther : (s t u zs : List ℕ) → from .Means s t → replied (to u) zs ≡ bytes s → u ≡ t
   -- "every spelled phrase is a sentence with that text as its value"
-  pub isSentence : (t : List ℕ) → IsAdmitted t → (to t .refusal ≡ 0) × from .Means (to t .phrase) t
-  -- so it is read as that text
+  pub isSentence : (s t zs : List ℕ) → replied (to t) zs ≡ bytes s → from .Means s t
+  -- and every admitted text is spelled, and its phrase is read as that text
+  pub isSpelled : (t : List ℕ) → IsAdmitted t → to t .refusal ≡ 0
   pub readAs : {xs ys : List ℕ} {r : Answer} (t : List ℕ) → IsAdmitted t → Reads from (to t .phrase) r xs ys → Answers r xs ys (fitted xs t)

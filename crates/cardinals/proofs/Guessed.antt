@@ -18,12 +18,12 @@ use Rattle.cardinals.specs.Grammar.{Says}
 use Rattle.cardinals.proofs.Numbers.{says, said}
 
 -- what is promised of a sentence, and of bytes that are none, by any grammar
-pub found : (Says : Bool → ℕ → Type 0) (m : Bool) (gs : List ℕ) → Says m (total gs) → ReadOf Says (seenAs m) gs
-found Says true gs w = record { reads = λ e. w; refuses = λ e. absurd (omega arith) }
-found Says false gs w = record { reads = λ e. w; refuses = λ e. absurd (omega arith) }
+pub read-found : (Says : Bool → ℕ → Type 0) (m : Bool) (gs : List ℕ) → Says m (total gs) → ReadOf Says (seenAs m) gs
+read-found Says true gs w = record { reads = λ e. w; refuses = λ e. absurd (omega arith) }
+read-found Says false gs w = record { reads = λ e. w; refuses = λ e. absurd (omega arith) }
 
-pub none : (Says : Bool → ℕ → Type 0) (gs : List ℕ) → ((m : Bool) (n : ℕ) → Says m n → ⊥) → ReadOf Says Refused gs
-none Says gs f = record { reads = λ e. absurd (omega arith); refuses = λ e. f }
+pub read-none : (Says : Bool → ℕ → Type 0) (gs : List ℕ) → ((m : Bool) (n : ℕ) → Says m n → ⊥) → ReadOf Says Refused gs
+read-none Says gs f = record { reads = λ e. absurd (omega arith); refuses = λ e. f }
 
 -- zero has no sign
 unsigned-zero : (L : Lexicon) (m : Bool) (n : ℕ) → cardinalPhrase L (cond (eqb n 0) false m) n ≡ cardinalPhrase L m n
@@ -40,5 +40,5 @@ module _ (L : Lexicon) (s : List ℕ) (m : Bool) (n : ℕ) (small : n < 1000 ^ L
   fails-says f {k} {l} w = let p = right k l w in f (rw (p .0, p .1) (said L w .1))
 
   pub read : (b z : Bool) (gs : List ℕ) → total gs ≡ n → z ≡ eqb n 0 → Decides b (cardinalPhrase L m n ≡ s) → ReadOf (Says L s) (seenOf b z m) gs
-  read true z gs g e d = found (Says L s) (cond z false m) gs (rw (g, e) (stands-says (d .holds refl)))
-  read false z gs g e d = none (Says L s) gs (λ k l. fails-says (d .fails refl))
+  read true z gs g e d = read-found (Says L s) (cond z false m) gs (rw (g, e) (stands-says (d .holds refl)))
+  read false z gs g e d = read-none (Says L s) gs (λ k l. fails-says (d .fails refl))

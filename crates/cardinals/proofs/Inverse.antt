@@ -64,8 +64,8 @@ module _ {Says : List ℕ → Bool → ℕ → Type 0} {phrase : Bool → ℕ �
       → Readable (λ (t : List ℕ). judged (not (wellFormed t)) (isRefused (negative t)) (ltb (orders * 3) (length (unsigned t))) ≡ 0)
       (λ (t : List ℕ). phrase (negative t) (value (unsigned t))) (λ (s t : List ℕ). NumberMeans (Says s) t)
   readable sign number right = record {
-    spelled = spelled-means;
-    respelled = means-spelled;
+    phraseMeans = spelled-means;
+    meansPhrase = means-spelled;
     oneValue = λ s t u p q. guessed s t p ∙ sym (guessed s u q);
   }
     where

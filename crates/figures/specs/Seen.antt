@@ -16,7 +16,7 @@ seenNumber Refused = noSentence
 seenNumber Plain = 0
 seenNumber Negative = 0
 
--- whether the sentence that it finds is negative
+-- whether the sentence that it finds, if it does, is negative
 abbrev pub seenSign : Seen → Bool
 seenSign Refused = false
 seenSign Plain = false

@@ -94,7 +94,7 @@ module _ (S : Settings) where
     where
       go : (t : Bool) → eqb n 1 ≡ t → NthSentence S (cond t (utf8 "premier" ∷ []) (nthWords (cardinalWords (french S) false n))) n
       go true e = rw (eqb-true n 1 e) first
-      go false e = later (sentence (french S) false n h (λ z. refl)) (eqb-false n 1 e)
+      go false e = later (sentence (french S) false n h (λ z. refl)) (λ z. absurd (eqb-false n 1 e z))
 
   spelled-nth : {ws : List Word} {n : ℕ} → NthSentence S ws n → (n < 1000 ^ 34) × (nthOf S n ≡ ws)
   unfolding nthOf french

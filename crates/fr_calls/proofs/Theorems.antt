@@ -7,7 +7,7 @@ use mathlib.Core.List.{List}
 use native.Mathlib.Omega.{arith}
 use Rattle.tables.proofs.Tests.{clash-of as clash}
 use Rattle.base.specs.Claim.{Inverse}
-use Rattle.base.proofs.Closing.{closed}
+use Rattle.base.proofs.Closing as closing
 use Rattle.settings.specs.Settings.{frenchRanges}
 use Rattle.settings.specs.declared.Settings.{Settings}
 use Rattle.settings.proofs.Ranges.{in-range, behind-settings}
@@ -45,11 +45,11 @@ module _ (S : Settings) where
   pub cardinals : frFromCardinal S .refusal ≡ 0 → Inverse (λ (t : List ℕ). Admitted (cardinalRefusals frenchDigitLimit t)) (frToCardinal S) (frFromCardinal S)
   unfolding french
   cardinals v =
-      closed v (λ t a. behind-settings (frenchRanges S) (cardinalRefusals frenchDigitLimit t) v ∙ a) (λ t a. sym (behind-settings (frenchRanges S) (cardinalRefusals frenchDigitLimit t) v) ∙ a)
+      closing.inverse v (λ t a. behind-settings (frenchRanges S) (cardinalRefusals frenchDigitLimit t) v ∙ a) (λ t a. sym (behind-settings (frenchRanges S) (cardinalRefusals frenchDigitLimit t) v) ∙ a)
       (inverse.readable (inverse.cardinals (french S)) (omega arith) (omega arith) (λ s. isMinus (meanings s)) (λ s. total (guessed (behindMinus (meanings s))))
       (λ s. right S (in-range (frenchRanges S) v) s _ refl _ refl))
 
   pub ordinals : frFromOrdinal S .refusal ≡ 0 → Inverse (λ (t : List ℕ). Admitted (ordinalRefusals frenchDigitLimit t)) (frToOrdinal S) (frFromOrdinal S)
   ordinals v =
-      closed v (λ t a. behind-settings (frenchRanges S) (ordinalRefusals frenchDigitLimit t) v ∙ a) (λ t a. sym (behind-settings (frenchRanges S) (ordinalRefusals frenchDigitLimit t) v) ∙ a)
+      closing.inverse v (λ t a. behind-settings (frenchRanges S) (ordinalRefusals frenchDigitLimit t) v ∙ a) (λ t a. sym (behind-settings (frenchRanges S) (ordinalRefusals frenchDigitLimit t) v) ∙ a)
       (inverse.readable nths (omega arith) (omega arith) (λ s. false) (λ s. total (guessed (meanings s))) (λ s. right-nth S (in-range (frenchRanges S) v) s _ refl))

@@ -66,6 +66,6 @@ module _ (S : Settings) (v : Within (frenchRanges S)) (s : List ℕ) where
     read-nth b z d = (go b z d, are-groups gs _ e)
       where
         go : (b z : Bool) → Decides b (nthPhrase S (total gs) ≡ s) → ReadOf (SaysNth S s) (seenOf b z false) gs
-        go true true d = guess.found (SaysNth S s) false gs (stands-nth (d .holds refl))
-        go true false d = guess.found (SaysNth S s) false gs (stands-nth (d .holds refl))
-        go false z d = guess.none (SaysNth S s) gs (λ k l. fails-nth (d .fails refl))
+        go true true d = guess.read-found (SaysNth S s) false gs (stands-nth (d .holds refl))
+        go true false d = guess.read-found (SaysNth S s) false gs (stands-nth (d .holds refl))
+        go false z d = guess.read-none (SaysNth S s) gs (λ k l. fails-nth (d .fails refl))

@@ -124,7 +124,7 @@ pub fn put_signed(minus: bool, g: &[u16], out: &mut [u8], w: usize)
 }
 
 // Writes that text and answers its length, or answers 7 with the length where the buffer is shorter.
-pub fn put_number(minus: bool, n: usize, g: &[u16], out: &mut [u8]) -> Answer
+fn put_number(minus: bool, n: usize, g: &[u16], out: &mut [u8]) -> Answer
     requires { ⌜ Groups (now g) × Highest (now g) n ⌝ }
     requires { ⌜ (0 < length (now g)) × (length (now g) ≤ 34) ⌝ }
     ensures { λ r. ⌜ Answers r (now (out .entry)) (now (out .exit)) (fitted (now (out .entry)) (signedDecimal minus (total (now (g .entry))))) ⌝ }

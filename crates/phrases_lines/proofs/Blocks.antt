@@ -2,7 +2,7 @@
 -- Assumes nothing.
 use Prim.Native.Nat.{ℕ}
 use mathlib.Core.Path.{_≡_, sym, ap, _∙_}
-use mathlib.Core.List.{List, [], _++_, append-assoc, append-nil, flatten}
+use mathlib.Core.List.{List, _++_, append-assoc, append-nil, flatten}
 use Rattle.phrases_lines.specs.Program.{program, Blocks, none, more, WholeInput}
 
 from : {p r v : List ℕ} {bs : List (List ℕ)} → Blocks p bs v r → program (p ++ flatten bs) ≡ v ++ program r

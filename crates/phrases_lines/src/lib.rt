@@ -13,7 +13,7 @@ ghost use Rattle.phrases_lines.specs.Held.{isLine};
 pub const HELD: usize = 513;
 
 // How much room the next answer may need: `lineRoom`.
-const ROOM: usize = 12321;
+const ROOM: usize = 6881;
 
 // How much of a line is held, and how much was written.
 pub struct Turn {

@@ -9,7 +9,7 @@ use Rattle.settings.specs.Settings.{accusative, inCase, ukrainianRanges, french
 use Rattle.settings.proofs.Ranges.{in-range}
 use Rattle.tokens.specs.Tokens.{split, fullKey, key}
 use Rattle.meanings.specs.Lookup.{lookup}
-use Rattle.uk_meanings.specs.Meanings.{shifts, table, meaningOf}
+use Rattle.uk_meanings.specs.Meanings.{shifts, table as ukTable, meaningOf}
 use Rattle.fr_meanings.specs.Meanings.{shifts as frShifts, table as frTable, meaningOf as frMeaningOf}
 use Rattle.cardinals.specs.Cardinal.{groupsBelow, cardinalWords, cardinalPhrase}
 use Rattle.uk.specs.UkTables.{zeros, gendered, units, teensBases, teensFlexions, tens, hundreds, thousandFlexions, megaBases, megaFlexions}
@@ -32,8 +32,8 @@ use Rattle.fr_read.specs.Reading.{meanings, seems, groupsRead, guessed}
 use Rattle.fr_read.proofs.Below as below
 use Rattle.fr_read.proofs.Decided.{right}
 use Rattle.fr_calls.specs.FrCalls.{frFromCardinal}
-use Rattle.samples.specs.Samples.{usual, usualFrench, readsNot, Holds, samples, habits, All}
-use Rattle.samples.proofs.Unread.{no-sentence, thousands}
+use Rattle.samples.specs.Samples.{usual, usualFrench, readsNot, Holds, table, All}
+use Rattle.samples.proofs.NoSentence.{no-sentence, thousands}
 
 -- the rules that lines are computed from, and the readers', each under one name, so that to unfold it is to unfold them all
 ukrainianRules : Unit {0}
@@ -53,7 +53,7 @@ unfolding form1 frUnits frTens teens megas centWord hundredWords tenWord roundWo
 frenchRules = tt
 
 ukrainianReader : Unit {0}
-unfolding split fullKey key lookup shifts table meaningOf taken
+unfolding split fullKey key lookup shifts ukTable meaningOf taken
 ukrainianReader = tt
 
 frenchReader : Unit {0}
@@ -71,18 +71,14 @@ infixr 2 _&_
 _&_ : {A B : Type 0} → A → B → A × B
 a & b = (a, b)
 
-pub samples-hold : All samples
+-- of `п'ять` the reader makes 0: an ASCII apostrophe ends a word, and `п` means nothing
+pub table-holds : All table
 unfolding ordinalRules moneyRules frenchRules ukrainianReader
-samples-hold =
+table-holds =
     (refl, refl) & (refl, refl) & (refl, refl) & (refl, refl) & (refl, refl) & (refl, refl) & (refl, refl) & (refl, refl) & (refl, refl) & (refl, refl)
     & (refl, refl) & (refl, refl) & (refl, refl) & refl & refl & refl & refl & refl & refl
-    & no-sentence (made usual (in-range (ukrainianRanges usual) refl) _) (thousands _ _ refl 20) refl & tt
-
--- of `п'ять` the reader makes 0: an ASCII apostrophe ends a word, and `п` means nothing
-pub habits-hold : All habits
-unfolding ordinalRules frenchRules ukrainianReader
-habits-hold =
-    (refl, refl) & (refl, refl) & (refl, refl, same-not _ _ refl) & (refl, refl, same-not _ _ refl) & (refl, refl, same-not _ _ refl) & (refl, refl, same-not _ _ refl)
+    & no-sentence (made usual (in-range (ukrainianRanges usual) refl) _) (thousands _ _ refl 20) refl
+    & (refl, refl) & (refl, refl) & (refl, refl, same-not _ _ refl) & (refl, refl, same-not _ _ refl) & (refl, refl, same-not _ _ refl) & (refl, refl, same-not _ _ refl)
     & no-sentence (made (inCase accusative usual) (in-range (ukrainianRanges (inCase accusative usual)) refl) _) (thousands _ _ refl 20) refl
     & (refl, refl, same-not _ _ refl) & (refl, refl, same-not _ _ refl) & un-mille & (refl, refl, same-not _ _ refl)
     & no-sentence (made usual (in-range (ukrainianRanges usual) refl) _) (lone _ _ _ refl 21) refl & tt

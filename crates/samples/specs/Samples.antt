@@ -3,7 +3,7 @@
 use Prim.Native.Nat.{ℕ}
 use Prim.Native.String.{String}
 use mathlib.Core.Path.{_≡_}
-use mathlib.Core.List.{List, [], _∷_}
+use mathlib.Core.List.{List, [], _∷_, _++_}
 use lib.IntN.{pos, negℤ}
 use Rattle.base.specs.Utf8.{utf8}
 use Rattle.base.specs.Answer.{malformed, wrongSign, tooLarge, noSentence, Spelling, refused}
@@ -60,7 +60,7 @@ abbrev pub All : List Sample → Type 0
 All [] = Unit
 All (s ∷ ss) = Holds s × All ss
 
--- the table: phrases and refusals
+-- phrases and refusals
 abbrev pub samples : List Sample
 samples =
     spells (ukCard (inGender feminine usual) "42") "сорок дві" ∷
@@ -84,7 +84,7 @@ samples =
     passes (ukCard usual "999999999999999999999999999999999999999999999999999999999999999999") ∷
     readsNot (ukFromCardinal usual) "два тисячі" ∷ []
 
--- "Errors of habit", each right phrase beside the wrong one, and what a reader does with the wrong one: "genitive after five in every case; `двохсотий` for
+-- "Errors of habit", each right phrase beside the wrong one, and that reading calls refuse wrong ones: "genitive after five in every case; `двохсотий` for
 -- 200th; `un mille`; an ASCII apostrophe for U+02BC"
 abbrev pub habits : List Sample
 habits =
@@ -100,3 +100,7 @@ habits =
     readsNot (frFromCardinal usualFrench) "un mille" ∷
     spellsNot (ukCard usual "5") "пʼять" "п'ять" ∷
     readsNot (ukFromCardinal usual) "п'ять" ∷ []
+
+-- the whole table
+abbrev pub table : List Sample
+table = samples ++ habits

@@ -5,7 +5,7 @@ use mathlib.Core.Path.{_≡_, sym, _∙_}
 use mathlib.Core.List.{List}
 use native.Mathlib.Omega.{arith}
 use Rattle.base.specs.Claim.{Inverse}
-use Rattle.base.proofs.Closing.{closed}
+use Rattle.base.proofs.Closing as closing
 use Rattle.settings.specs.Settings.{ukrainianRanges}
 use Rattle.settings.specs.declared.Settings.{Settings}
 use Rattle.settings.proofs.Ranges.{in-range, behind-settings}
@@ -18,5 +18,5 @@ use Rattle.uk_calls.specs.UkCardinals.{ukToCardinal, ukFromCardinal}
 pub cardinals : (S : Settings) → ukFromCardinal S .refusal ≡ 0 → Inverse (λ (t : List ℕ). Admitted (cardinalRefusals ukrainianDigitLimit t)) (ukToCardinal S) (ukFromCardinal S)
 unfolding ukrainian
 cardinals S v =
-    closed v (λ t a. behind-settings (ukrainianRanges S) (cardinalRefusals ukrainianDigitLimit t) v ∙ a) (λ t a. sym (behind-settings (ukrainianRanges S) (cardinalRefusals ukrainianDigitLimit t) v) ∙ a)
+    closing.inverse v (λ t a. behind-settings (ukrainianRanges S) (cardinalRefusals ukrainianDigitLimit t) v ∙ a) (λ t a. sym (behind-settings (ukrainianRanges S) (cardinalRefusals ukrainianDigitLimit t) v) ∙ a)
     (inverse.readable (inverse.cardinals (ukrainian S)) (omega arith) (omega arith) madeSign madeNumber (made S (in-range (ukrainianRanges S) v)))

@@ -8,7 +8,8 @@ use mathlib.Core.Option.{Option, none, some}
 use native.Mathlib.Omega.{arith}
 use Rattle.base.specs.Answer.{wrongSetting, wrongCode}
 use Rattle.base.specs.Claim.{Inverse}
-use Rattle.base.proofs.Closing.{Readable, closed}
+use Rattle.base.proofs.Closing.{Readable}
+use Rattle.base.proofs.Closing as closing
 use Rattle.settings.specs.Settings.{ukrainianRanges, within, Within}
 use Rattle.settings.specs.declared.Settings.{Settings}
 use Rattle.settings.proofs.Ranges.{in-range, behind-settings}
@@ -56,16 +57,16 @@ module _ (S : Settings) (w : Within (ukrainianRanges S)) (i : ℕ) (hi : i < 44)
       amount-is (p .valued) (amount-said S (currencyAt i) (p .says) .0) ∙ rw (e .0, e .1) (sym (amount-is (q .valued) (amount-said S (currencyAt i) (q .says) .0)))
 
   one-readable : Readable (λ (t : List ℕ). Admitted (amountRefusals t)) (moneyPhrase S (some (currencyAt i))) Means
-  one-readable = record { spelled = spelled-means S (currencyAt i); respelled = means-spelled S (currencyAt i); oneValue = one-value }
+  one-readable = record { phraseMeans = spelled-means S (currencyAt i); meansPhrase = means-spelled S (currencyAt i); oneValue = one-value }
 
 -- of every code
 module _ (S : Settings) where
-  abbrev Closed : Option Currency → Type 0
-  Closed c = Inverse (λ (t : List ℕ). Admitted (amountRefusals t)) (amountSpelling S c) (amountReading S c)
+  abbrev Both : Option Currency → Type 0
+  Both c = Inverse (λ (t : List ℕ). Admitted (amountRefusals t)) (amountSpelling S c) (amountReading S c)
 
-  one-closed : (c : Currency) → amountReading S (some c) .refusal ≡ 0 → Readable (λ (t : List ℕ). Admitted (amountRefusals t)) (moneyPhrase S (some c)) (MoneyMeans S (some c)) → Closed (some c)
-  one-closed c v R =
-      closed v (λ t a. behind-settings (ukrainianRanges S) (unknown (some c) ∷ amountRefusals t) v ∙ a) (λ t a. sym (behind-settings (ukrainianRanges S) (unknown (some c) ∷ amountRefusals t) v) ∙ a) R
+  one-inverse : (c : Currency) → amountReading S (some c) .refusal ≡ 0 → Readable (λ (t : List ℕ). Admitted (amountRefusals t)) (moneyPhrase S (some c)) (MoneyMeans S (some c)) → Both (some c)
+  one-inverse c v R =
+      closing.inverse v (λ t a. behind-settings (ukrainianRanges S) (unknown (some c) ∷ amountRefusals t) v ∙ a) (λ t a. sym (behind-settings (ukrainianRanges S) (unknown (some c) ∷ amountRefusals t) v) ∙ a) R
 
   pub money : (code : List ℕ) → ukFromCurrency S code .refusal ≡ 0 → Inverse (λ (t : List ℕ). Admitted (amountRefusals t)) (ukToCurrency S code) (ukFromCurrency S code)
   money code v = go (currencyOf code) refl v
@@ -74,9 +75,9 @@ module _ (S : Settings) where
       unknown-refused true e = omega arith
       unknown-refused false e = omega arith
 
-      go : (c : Option Currency) → currencyOf code ≡ c → amountReading S c .refusal ≡ 0 → Closed c
+      go : (c : Option Currency) → currencyOf code ≡ c → amountReading S c .refusal ≡ 0 → Both c
       go none e v = absurd (unknown-refused (within (ukrainianRanges S)) v)
       go (some c) e v =
           let p = coded code c e in
-          one-closed c v (subst (λ (d : Currency). Readable (λ (t : List ℕ). Admitted (amountRefusals t)) (moneyPhrase S (some d)) (MoneyMeans S (some d))) (p .1)
+          one-inverse c v (subst (λ (d : Currency). Readable (λ (t : List ℕ). Admitted (amountRefusals t)) (moneyPhrase S (some d)) (MoneyMeans S (some d))) (p .1)
           (one-readable S (in-range (ukrainianRanges S) v) (codePlace code) (p .0)))

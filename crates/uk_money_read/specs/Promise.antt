@@ -18,7 +18,7 @@ abbrev pub seenAmountNumber : SeenAmount → ℕ
 seenAmountNumber Refused = noSentence
 seenAmountNumber (Amount h) = 0
 
--- the hundredths of the amount that it finds
+-- the hundredths of the amount that it finds, if it does
 abbrev pub seenHundredths : SeenAmount → ℕ
 seenHundredths Refused = 0
 seenHundredths (Amount h) = h

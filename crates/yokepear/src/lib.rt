@@ -3,11 +3,7 @@
 use base::Answer;
 ghost use Rattle.base.specs.Answer.{replied, Answers};
 ghost use Rattle.base.specs.Reading.{Reads};
-ghost use Rattle.settings.specs.Settings.{ukrainianSettings, frenchSettings};
-ghost use Rattle.uk_calls.specs.UkCardinals.{ukToCardinal, ukFromCardinal};
-ghost use Rattle.uk_ordinal_calls.specs.UkOrdinals.{ukToOrdinal, ukToOrdinalNum, ukToYear};
-ghost use Rattle.uk_money_calls.specs.MoneyCalls.{ukToCurrency, ukFromCurrency};
-ghost use Rattle.fr_calls.specs.FrCalls.{frToCardinal, frToOrdinal, frFromCardinal, frFromOrdinal};
+ghost use Rattle.yokepear.specs.Calls.{toCardinal, toOrdinal, toOrdinalNum, toYear, toCurrency, toFrenchCardinal, toFrenchOrdinal, spellingOf, fromCardinal, fromCurrency, fromFrenchCardinal, fromFrenchOrdinal, readingOf};
 
 // The cardinal of a number text.
 #[no_mangle]
@@ -18,7 +14,7 @@ pub extern "C" fn yokepear_uk_to_cardinal(
     text: &[u8],
     out: &mut [u8],
 ) -> Answer
-    ensures { λ r. ⌜ Answers r (now (out .entry)) (now (out .exit)) (replied (ukToCardinal (ukrainianSettings gender number case) (now (text .entry))) (now (out .entry))) ⌝ }
+    ensures { λ r. ⌜ Answers r (now (out .entry)) (now (out .exit)) (replied (spellingOf (toCardinal gender number case (now (text .entry)))) (now (out .entry))) ⌝ }
 {
     uk_calls::to_cardinal(gender, number, case, text, out)
 }
@@ -32,7 +28,7 @@ pub extern "C" fn yokepear_uk_from_cardinal(
     phrase: &[u8],
     out: &mut [u8],
 ) -> Answer
-    ensures { λ r. ⌜ Reads (ukFromCardinal (ukrainianSettings gender number case)) (now (phrase .entry)) r (now (out .entry)) (now (out .exit)) ⌝ }
+    ensures { λ r. ⌜ Reads (readingOf (fromCardinal gender number case)) (now (phrase .entry)) r (now (out .entry)) (now (out .exit)) ⌝ }
 {
     uk_calls::from_cardinal(gender, number, case, phrase, out)
 }
@@ -46,7 +42,7 @@ pub extern "C" fn yokepear_uk_to_ordinal(
     text: &[u8],
     out: &mut [u8],
 ) -> Answer
-    ensures { λ r. ⌜ Answers r (now (out .entry)) (now (out .exit)) (replied (ukToOrdinal (ukrainianSettings gender number case) (now (text .entry))) (now (out .entry))) ⌝ }
+    ensures { λ r. ⌜ Answers r (now (out .entry)) (now (out .exit)) (replied (spellingOf (toOrdinal gender number case (now (text .entry)))) (now (out .entry))) ⌝ }
 {
     uk_ordinal_calls::to_ordinal(gender, number, case, text, out)
 }
@@ -60,7 +56,7 @@ pub extern "C" fn yokepear_uk_to_ordinal_num(
     text: &[u8],
     out: &mut [u8],
 ) -> Answer
-    ensures { λ r. ⌜ Answers r (now (out .entry)) (now (out .exit)) (replied (ukToOrdinalNum (ukrainianSettings gender number case) (now (text .entry))) (now (out .entry))) ⌝ }
+    ensures { λ r. ⌜ Answers r (now (out .entry)) (now (out .exit)) (replied (spellingOf (toOrdinalNum gender number case (now (text .entry)))) (now (out .entry))) ⌝ }
 {
     uk_ordinal_calls::to_ordinal_num(gender, number, case, text, out)
 }
@@ -74,7 +70,7 @@ pub extern "C" fn yokepear_uk_to_year(
     year: i64,
     out: &mut [u8],
 ) -> Answer
-    ensures { λ r. ⌜ Answers r (now (out .entry)) (now (out .exit)) (replied (ukToYear (ukrainianSettings gender number case) year) (now (out .entry))) ⌝ }
+    ensures { λ r. ⌜ Answers r (now (out .entry)) (now (out .exit)) (replied (spellingOf (toYear gender number case year)) (now (out .entry))) ⌝ }
 {
     uk_ordinal_calls::to_year(gender, number, case, year, out)
 }
@@ -89,7 +85,7 @@ pub extern "C" fn yokepear_uk_to_currency(
     text: &[u8],
     out: &mut [u8],
 ) -> Answer
-    ensures { λ r. ⌜ Answers r (now (out .entry)) (now (out .exit)) (replied (ukToCurrency (ukrainianSettings gender number case) (now (code .entry)) (now (text .entry))) (now (out .entry))) ⌝ }
+    ensures { λ r. ⌜ Answers r (now (out .entry)) (now (out .exit)) (replied (spellingOf (toCurrency gender number case (now (code .entry)) (now (text .entry)))) (now (out .entry))) ⌝ }
 {
     uk_money_calls::to_currency(gender, number, case, code, text, out)
 }
@@ -104,7 +100,7 @@ pub extern "C" fn yokepear_uk_from_currency(
     phrase: &[u8],
     out: &mut [u8],
 ) -> Answer
-    ensures { λ r. ⌜ Reads (ukFromCurrency (ukrainianSettings gender number case) (now (code .entry))) (now (phrase .entry)) r (now (out .entry)) (now (out .exit)) ⌝ }
+    ensures { λ r. ⌜ Reads (readingOf (fromCurrency gender number case (now (code .entry)))) (now (phrase .entry)) r (now (out .entry)) (now (out .exit)) ⌝ }
 {
     uk_money_calls::from_currency(gender, number, case, code, phrase, out)
 }
@@ -118,7 +114,7 @@ pub extern "C" fn yokepear_fr_to_cardinal(
     text: &[u8],
     out: &mut [u8],
 ) -> Answer
-    ensures { λ r. ⌜ Answers r (now (out .entry)) (now (out .exit)) (replied (frToCardinal (frenchSettings feminine reformed region) (now (text .entry))) (now (out .entry))) ⌝ }
+    ensures { λ r. ⌜ Answers r (now (out .entry)) (now (out .exit)) (replied (spellingOf (toFrenchCardinal feminine reformed region (now (text .entry)))) (now (out .entry))) ⌝ }
 {
     fr_calls::to_cardinal(feminine, reformed, region, text, out)
 }
@@ -132,7 +128,7 @@ pub extern "C" fn yokepear_fr_to_ordinal(
     text: &[u8],
     out: &mut [u8],
 ) -> Answer
-    ensures { λ r. ⌜ Answers r (now (out .entry)) (now (out .exit)) (replied (frToOrdinal (frenchSettings feminine reformed region) (now (text .entry))) (now (out .entry))) ⌝ }
+    ensures { λ r. ⌜ Answers r (now (out .entry)) (now (out .exit)) (replied (spellingOf (toFrenchOrdinal feminine reformed region (now (text .entry)))) (now (out .entry))) ⌝ }
 {
     fr_calls::to_ordinal(feminine, reformed, region, text, out)
 }
@@ -146,7 +142,7 @@ pub extern "C" fn yokepear_fr_from_cardinal(
     phrase: &[u8],
     out: &mut [u8],
 ) -> Answer
-    ensures { λ r. ⌜ Reads (frFromCardinal (frenchSettings feminine reformed region)) (now (phrase .entry)) r (now (out .entry)) (now (out .exit)) ⌝ }
+    ensures { λ r. ⌜ Reads (readingOf (fromFrenchCardinal feminine reformed region)) (now (phrase .entry)) r (now (out .entry)) (now (out .exit)) ⌝ }
 {
     fr_calls::from_cardinal(feminine, reformed, region, phrase, out)
 }
@@ -160,7 +156,7 @@ pub extern "C" fn yokepear_fr_from_ordinal(
     phrase: &[u8],
     out: &mut [u8],
 ) -> Answer
-    ensures { λ r. ⌜ Reads (frFromOrdinal (frenchSettings feminine reformed region)) (now (phrase .entry)) r (now (out .entry)) (now (out .exit)) ⌝ }
+    ensures { λ r. ⌜ Reads (readingOf (fromFrenchOrdinal feminine reformed region)) (now (phrase .entry)) r (now (out .entry)) (now (out .exit)) ⌝ }
 {
     fr_calls::from_ordinal(feminine, reformed, region, phrase, out)
 }

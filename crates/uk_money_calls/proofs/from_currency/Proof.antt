@@ -3,6 +3,7 @@
 use mathlib.Core.Path.{refl, sym, _∙_}
 use native.Mathlib.Omega.{arith}
 use borrow.Author.Needs.{needs}
+use Rattle.base.specs.Answer.{wrongSetting, wrongCode}
 use Rattle.base.proofs.Replies.{refuses-first}
 use Rattle.uk_money.proofs.Coded.{known-code, unknown-code}
 use Rattle.uk_money_calls.proofs.from_currency.Statement.{statement}
@@ -20,12 +21,12 @@ returns c =
 returns-2 : tie.Need-returns-2
 returns-2 c =
     let w = sym (c .before .before .before .before .is-ukrainian .ensures) ∙ c .before .before .before .if1 .taken in
-    refuses-first _ _ _ _ 2 (c .refused .ensures) (rw (w, unknown-code _ (rw (c .before .before .code-of .ensures) at (c .before .if2 .left))) refl) (λ z. omega arith)
+    refuses-first _ _ _ _ wrongCode (c .refused .ensures) (rw (w, unknown-code _ (rw (c .before .before .code-of .ensures) at (c .before .if2 .left))) refl) (λ z. omega arith)
 
 returns-3 : tie.Need-returns-3
 returns-3 c =
     let e = sym (c .before .before .is-ukrainian .ensures) ∙ c .before .if1 .left in
-    refuses-first _ _ _ _ 1 (c .refused2 .ensures) (rw e refl) (λ z. omega arith)
+    refuses-first _ _ _ _ wrongSetting (c .refused2 .ensures) (rw e refl) (λ z. omega arith)
 
 pub from-currency-spec : {M : Type 1} → statement M
 from-currency-spec =
