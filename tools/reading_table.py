@@ -1,19 +1,23 @@
 #!/usr/bin/env python3
-"""Writes into docs/PROMISES.md how many lines each file of its reading order has."""
+"""Writes into docs/PROMISES.md how many lines each file of its reading order has. With --check it writes nothing and fails at a difference."""
 import pathlib
 import re
+import sys
 
 root = pathlib.Path(__file__).resolve().parent.parent
 page = root / "docs" / "PROMISES.md"
-total = 0
+counts = []
 
 
 def count(row):
-    global total
-    lines = len((root / row[2]).read_text().splitlines())
-    total += lines
-    return f"{row[1]}`{row[2]}` | {lines} |"
+    counts.append(len((root / row[2]).read_text().splitlines()))
+    return f"{row[1]}`{row[2]}` | {counts[-1]} |"
 
 
-text = re.sub(r"(^\| \d? ?\| )`(crates/\S+)` \| \d+ \|", count, page.read_text(), flags=re.M)
-page.write_text(re.sub(r"^\| \| all \| \d+ \|", lambda _: f"| | all | {total} |", text, flags=re.M))
+before = page.read_text()
+after = re.sub(r"(^\| \d? ?\| )`(crates/\S+)` \| \d+ \|", count, before, flags=re.M)
+after = re.sub(r"^\| \| all \| \d+ \|", lambda _: f"| | all | {sum(counts)} |", after, flags=re.M)
+if "--check" not in sys.argv:
+    page.write_text(after)
+elif after != before:
+    raise SystemExit("docs/PROMISES.md: the reading order's lines have changed: run tools/reading_table.py")

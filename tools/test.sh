@@ -36,6 +36,7 @@ gate() {
 step words python3 tools/gen_words.py --check || failed words
 step meanings python3 tools/gen_meanings.py --check || failed meanings
 step money python3 tools/gen_money.py --check || failed money
+step reading_order python3 tools/reading_table.py --check || failed reading_order
 # rt waits for all of a batch before it starts the next: with three to a processor a long check does not leave one idle (each takes up to 1.4 GB).
 export RT_JOBS=${RT_JOBS:-$((3 * $(nproc)))}
 gate

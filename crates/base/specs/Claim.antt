@@ -28,7 +28,7 @@ GivesNoSentence from s r xs ys = ((t : List ℕ) → from .Means s t → ⊥) ×
 -- of one kind: the texts that it admits, what its spelling call comes to for a text, and what its reading call comes to. Of the reading call only its
 -- contract is known: r is any answer to any bytes s, for a buffer xs left as ys, that `Reads` allows
 pub record Inverse (IsAdmitted : List ℕ → Type 0) (to : List ℕ → Spelling) (from : Reading) : Type 0 where
-  -- "Reading answers with a text exactly when the bytes are a sentence of the written grammar and the text fits; the text is the sentence's value"
+  -- "Reading answers with a text exactly when the bytes are a sentence [..], and the text fits; the text is the sentence's value"
   pub ifAnswered : {s xs ys : List ℕ} {r : Answer} → Reads from s r xs ys → r .number ≡ 0 → (t : List ℕ) × Fits from s xs t × GivesText r xs ys t
   pub answersIf : {s xs ys : List ℕ} {r : Answer} → Reads from s r xs ys → (t : List ℕ) → Fits from s xs t → GivesText r xs ys t
   -- otherwise it gives 7 with the length of the sentence's text, or 6 where there is no sentence
