@@ -9,7 +9,7 @@ use Rattle.settings.specs.Settings.{accusative, inCase, ukrainianRanges, french
 use Rattle.settings.proofs.Ranges.{in-range}
 use Rattle.tokens.specs.Tokens.{split, fullKey, key}
 use Rattle.meanings.specs.Lookup.{lookup}
-use Rattle.uk_meanings.specs.Meanings.{shifts, table as ukTable, meaningOf}
+use Rattle.uk_meanings.specs.Meanings.{shifts, table, meaningOf}
 use Rattle.fr_meanings.specs.Meanings.{shifts as frShifts, table as frTable, meaningOf as frMeaningOf}
 use Rattle.cardinals.specs.Cardinal.{groupsBelow, cardinalWords, cardinalPhrase}
 use Rattle.uk.specs.UkTables.{zeros, gendered, units, teensBases, teensFlexions, tens, hundreds, thousandFlexions, megaBases, megaFlexions}
@@ -32,7 +32,7 @@ use Rattle.fr_read.specs.Reading.{meanings, seems, groupsRead, guessed}
 use Rattle.fr_read.proofs.Below as below
 use Rattle.fr_read.proofs.Decided.{right}
 use Rattle.fr_calls.specs.FrCalls.{frFromCardinal}
-use Rattle.samples.specs.Samples.{usual, usualFrench, readsNot, Holds, table, All}
+use Rattle.samples.specs.Samples.{usual, usualFrench, readsNot, Holds, sampleTable, All}
 use Rattle.samples.proofs.NoSentence.{no-sentence, thousands}
 
 -- the rules that lines are computed from, and the readers', each under one name, so that to unfold it is to unfold them all
@@ -53,7 +53,7 @@ unfolding form1 frUnits frTens teens megas centWord hundredWords tenWord roundWo
 frenchRules = tt
 
 ukrainianReader : Unit {0}
-unfolding split fullKey key lookup shifts ukTable meaningOf taken
+unfolding split fullKey key lookup shifts table meaningOf taken
 ukrainianReader = tt
 
 frenchReader : Unit {0}
@@ -72,9 +72,9 @@ _&_ : {A B : Type 0} → A → B → A × B
 a & b = (a, b)
 
 -- of `п'ять` the reader makes 0: an ASCII apostrophe ends a word, and `п` means nothing
-pub table-holds : All table
+pub samples-hold : All sampleTable
 unfolding ordinalRules moneyRules frenchRules ukrainianReader
-table-holds =
+samples-hold =
     (refl, refl) & (refl, refl) & (refl, refl) & (refl, refl) & (refl, refl) & (refl, refl) & (refl, refl) & (refl, refl) & (refl, refl) & (refl, refl)
     & (refl, refl) & (refl, refl) & (refl, refl) & refl & refl & refl & refl & refl & refl
     & no-sentence (made usual (in-range (ukrainianRanges usual) refl) _) (thousands _ _ refl 20) refl

@@ -102,5 +102,5 @@ habits =
     readsNot (ukFromCardinal usual) "п'ять" ∷ []
 
 -- the whole table
-abbrev pub table : List Sample
-table = samples ++ habits
+abbrev pub sampleTable : List Sample
+sampleTable = samples ++ habits
