@@ -17,7 +17,8 @@
  *   The answer stands at the front of `out`; the bytes after it are left as they were. A refusal
  *   changes nothing.
  *   A buffer of the YOKEPEAR_..._PHRASE or YOKEPEAR_..._TEXT bytes given with a call is always long
- *   enough. For an exact size, ask with out_length 0: refusal 7 reports the length needed.
+ *   enough, and the longest answer fills it. For an exact size, ask with out_length 0: refusal 7
+ *   reports the length needed.
  *
  *   Example:
  *     uint8_t out[YOKEPEAR_UK_CARDINAL_PHRASE];

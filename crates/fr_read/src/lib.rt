@@ -240,7 +240,7 @@ pub fn read_cardinal(settings: Settings, s: &[u8], out: &mut [u16; ORDERS]) -> R
     Read { seen, orders: n }
 }
 
-// Any bytes as an ordinal under these settings, which has no sign: what they are by the grammar, with the groups in out.
+// Any bytes as an ordinal, which has no sign, under these settings: what they are by the grammar, with the groups in out.
 pub fn read_ordinal(settings: Settings, s: &[u8], out: &mut [u16; ORDERS]) -> Read
     requires { ⌜ Within (frenchRanges settings) × (length (now out) ≡ 34) ⌝ }
     ensures { λ r. ⌜ ReadOf (SaysNth settings (now (s .entry))) (r .seen) (now (out .exit)) × Groups34 (now (out .exit)) × Highest (now (out .exit)) (r .orders) ⌝ }

@@ -33,8 +33,8 @@ Answered p block w q = (rest : List ℕ) → program (p ++ (block ++ rest)) ≡ 
 
 -- blocks that came in one after another from the line so far p on, all that was written to them, and the line so far at their end
 pub data Blocks : List ℕ → List (List ℕ) → List ℕ → List ℕ → Type 0 where
-  none : (p : List ℕ) → Blocks p [] [] p
-  more : (p q r block w v : List ℕ) (bs : List (List ℕ)) → Answered p block w q → Blocks q bs v r → Blocks p (block ∷ bs) (w ++ v) r
+  noBlocks : (p : List ℕ) → Blocks p [] [] p
+  oneMore : (p q r block w v : List ℕ) (bs : List (List ℕ)) → Answered p block w q → Blocks q bs v r → Blocks p (block ∷ bs) (w ++ v) r
 
 -- the program's conclusion: however the input falls into blocks, what was written to them, and then the answer to the line that is left, is what the
 -- program writes to all of it

@@ -11,6 +11,7 @@ ghost use Rattle.base.specs.Answer.{fitted, Answers};
 ghost use Rattle.base.specs.Decides.{Decides};
 ghost use Rattle.words.specs.Part.{part};
 ghost use Rattle.base.specs.Front.{passed};
+ghost use Rattle.base.specs.Room.{longestPiece};
 ghost use Rattle.plan.specs.Phrase.{following, phraseOf};
 ghost use Rattle.plan.specs.Plan.{pieceOf, pieces, says, Added};
 ghost use Rattle.plan.specs.Stands.{stands as standsAs};
@@ -32,7 +33,7 @@ pub fn push(plan: &mut [u32], at: usize, separator: u8, place: u16) -> usize
 
 // The length of a piece with its separator.
 fn piece_len(pool: &[u8], code: u32) -> usize
-    ensures { λ r. ⌜ (r ≡ length (following (pieceOf (now (pool .entry)) code ∷ []))) × (r ≤ 40) ⌝ }
+    ensures { λ r. ⌜ (r ≡ length (following (pieceOf (now (pool .entry)) code ∷ []))) × (r ≤ longestPiece) ⌝ }
 {
     let n = words::len(pool, code / SEPARATORS);
     if code % SEPARATORS == 0 { n } else { n + 1 }
@@ -41,7 +42,7 @@ fn piece_len(pool: &[u8], code: u32) -> usize
 // The length of pieces that follow others.
 fn following_len(pool: &[u8], plan: &[u32]) -> usize
     requires { ⌜ length (now plan) ≤ 1000 ⌝ }
-    ensures { λ r. ⌜ (r ≡ length (following (pieces (now (pool .entry)) (now (plan .entry))))) × (r ≤ 40 * length (now (plan .entry))) ⌝ }
+    ensures { λ r. ⌜ (r ≡ length (following (pieces (now (pool .entry)) (now (plan .entry))))) × (r ≤ longestPiece * length (now (plan .entry))) ⌝ }
 {
     let mut n: usize = 0;
     let mut i: usize = 0;
@@ -56,7 +57,7 @@ fn following_len(pool: &[u8], plan: &[u32]) -> usize
 // The length of a phrase.
 fn len(pool: &[u8], plan: &[u32]) -> usize
     requires { ⌜ length (now plan) ≤ 1000 ⌝ }
-    ensures { λ r. ⌜ (r ≡ length (phraseOf (pieces (now (pool .entry)) (now (plan .entry))))) × (r ≤ 40 * length (now (plan .entry))) ⌝ }
+    ensures { λ r. ⌜ (r ≡ length (phraseOf (pieces (now (pool .entry)) (now (plan .entry))))) × (r ≤ longestPiece * length (now (plan .entry))) ⌝ }
 {
     if plan.len() == 0 {
         return 0;
@@ -111,7 +112,7 @@ fn put(pool: &[u8], plan: &[u32], out: &mut [u8]) -> usize
 fn speak_measured(pool: &[u8], plan: &[u32], n: usize, out: &mut [u8]) -> Answer
     requires { ⌜ (n ≤ length (now plan)) × (n ≤ 1000) ⌝ }
     ensures { λ r. ⌜ Answers r (now (out .entry)) (now (out .exit)) (fitted (now (out .entry)) (phraseOf (says (now (pool .entry)) (now (plan .entry)) n))) ⌝ }
-    ensures { λ r. ⌜ r .length ≤ 40 * n ⌝ }
+    ensures { λ r. ⌜ r .length ≤ longestPiece * n ⌝ }
 {
     let size = len(pool, &plan[..n]);
     if out.len() < size {
@@ -131,7 +132,7 @@ fn speak_measured(pool: &[u8], plan: &[u32], n: usize, out: &mut [u8]) -> Answer
 pub fn speak(pool: &[u8], plan: &[u32], n: usize, out: &mut [u8]) -> Answer
     requires { ⌜ (n ≤ length (now plan)) × (n ≤ 1000) ⌝ }
     ensures { λ r. ⌜ Answers r (now (out .entry)) (now (out .exit)) (fitted (now (out .entry)) (phraseOf (says (now (pool .entry)) (now (plan .entry)) n))) ⌝ }
-    ensures { λ r. ⌜ r .length ≤ 40 * n ⌝ }
+    ensures { λ r. ⌜ r .length ≤ longestPiece * n ⌝ }
 {
     if out.len() < LONGEST * n {
         return speak_measured(pool, plan, n, out);

@@ -16,6 +16,7 @@ ghost use lib.ListN.{length};
 ghost use Rattle.base.specs.Answer.{fitted, Answers};
 ghost use Rattle.base.specs.Decides.{Decides};
 ghost use Rattle.base.specs.Utf8.{utf8, form1, form2};
+ghost use Rattle.base.specs.Room.{longestPiece};
 ghost use Rattle.words.specs.Part.{part};
 ghost use Rattle.plan.specs.Phrase.{phraseOf};
 ghost use Rattle.plan.specs.Plan.{pieces, says};
@@ -43,7 +44,7 @@ fn texts() -> [u8; pool::SIZE]
 pub fn speak(plan: &[u32], n: usize, out: &mut [u8]) -> Answer
     requires { ⌜ (n ≤ length (now plan)) × (n ≤ 1000) ⌝ }
     ensures { λ r. ⌜ Answers r (now (out .entry)) (now (out .exit)) (fitted (now (out .entry)) (phraseOf (says ukPool (now (plan .entry)) n))) ⌝ }
-    ensures { λ r. ⌜ r .length ≤ 40 * n ⌝ }
+    ensures { λ r. ⌜ r .length ≤ longestPiece * n ⌝ }
 {
     let lent = texts();
     plan::speak(&lent, plan, n, out)

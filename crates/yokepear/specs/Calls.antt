@@ -1,4 +1,4 @@
--- All calls, by the definitions that their contracts cite (01, "Where each refusal arises").
+-- All calls: what each is given, and what it comes to. The contracts of the exported functions cite this list.
 -- Assumes nothing.
 use Prim.Native.Nat.{ℕ}
 use mathlib.Core.Path.{_≡_}

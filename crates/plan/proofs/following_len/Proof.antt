@@ -5,12 +5,13 @@ use mathlib.Core.Path.{_≡_, sym, ap}
 use native.Mathlib.Omega.{arith}
 use lib.ListN.{length, length-append}
 use borrow.Author.Needs.{needs}
+use Rattle.base.specs.Room.{longestPiece}
 use Rattle.plan.proofs.Laws.{upto, next, upto-all, upto-none}
 use Rattle.plan.proofs.following_len.Statement.{statement}
 use Rattle.plan.proofs.following_len.Tie as tie
 
 abbrev Inv-loop : tie.InvT-loop
-Inv-loop pool plan n₀ i₀ n i = (i ≤ length plan) × ((n ≡ length (upto pool i plan)) × ((n ≤ 40 * i) × (length plan ≤ 1000)))
+Inv-loop pool plan n₀ i₀ n i = (i ≤ length plan) × ((n ≡ length (upto pool i plan)) × ((n ≤ longestPiece * i) × (length plan ≤ 1000)))
 
 abbrev μ-loop : tie.MeasureT-loop
 μ-loop pool plan n₀ i₀ n i = length plan - i
