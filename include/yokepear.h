@@ -13,7 +13,7 @@
  * Buffers
  *   A call takes any bytes, any lengths and any setting numbers. It reads no byte past an input's
  *   length and writes none past the buffer's. A pointer may be null if its length is 0.
- *   The input and the buffer `out` must not overlap.
+ *   No input may overlap the buffer `out`.
  *   The answer stands at the front of `out`; the bytes after it are left as they were. A refusal
  *   changes nothing.
  *   A buffer of the YOKEPEAR_..._PHRASE or YOKEPEAR_..._TEXT bytes given with a call is always long

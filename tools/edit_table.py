@@ -1,6 +1,7 @@
 #!/usr/bin/env python3
-"""Writes the table of must-fail edits into docs/TABLES.md, from the first line of each edit."""
+"""Writes the table of must-fail edits into docs/TABLES.md, from the first line of each edit. With --check it writes nothing and fails at a difference."""
 import pathlib
+import sys
 
 root = pathlib.Path(__file__).resolve().parent.parent
 head = "| crate | edit | what it is |\n|---|---|---|\n"
@@ -14,9 +15,14 @@ def row(edit):
 
 
 page = root / "docs" / "TABLES.md"
-before, after = page.read_text().split(head)
+text = page.read_text()
+before, after = text.split(head)
 rest = after.splitlines(keepends=True)
 while rest and rest[0].startswith("|"):
     rest.pop(0)
 rows = [row(edit) for edit in sorted(root.glob("crates/*/must-fail/*.edit"))]
-page.write_text(before + head + "".join(rows) + "".join(rest))
+written = before + head + "".join(rows) + "".join(rest)
+if "--check" not in sys.argv:
+    page.write_text(written)
+elif written != text:
+    raise SystemExit("docs/TABLES.md: the must-fail edits have changed: run tools/edit_table.py")

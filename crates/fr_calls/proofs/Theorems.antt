@@ -15,7 +15,7 @@ use Rattle.figures.specs.Groups.{total}
 use Rattle.figures.specs.Refusals.{frenchDigitLimit, cardinalRefusals, ordinalRefusals, Admitted}
 use Rattle.cardinals.specs.Grammar.{Says}
 use Rattle.cardinals.proofs.Numbers.{said}
-use Rattle.cardinals.proofs.Inverse as inverse
+use Rattle.cardinals.proofs.Inverse as laws
 use Rattle.numerals.proofs.Readings.{Bounded}
 use Rattle.fr.specs.Rules.{french}
 use Rattle.fr.specs.Ordinal.{nthPhrase}
@@ -27,7 +27,7 @@ use Rattle.fr_calls.specs.FrCalls.{frToCardinal, frToOrdinal, frFromCard
 
 module _ (S : Settings) where
   -- any sign of an ordinal is refused
-  nths : inverse.OnePhrase (SaysNth S) (λ m. nthPhrase S) (λ m. m) 34
+  nths : laws.OnePhrase (SaysNth S) (λ m. nthPhrase S) (λ m. m) 34
   nths = record {
     says = λ m n h z f. rw f (says-nth S n h);
     small = λ w. said-nth S w .0;
@@ -37,19 +37,19 @@ module _ (S : Settings) where
 
   pub bounded-cardinal : (s : List ℕ) → Bounded (Says (french S) s)
   unfolding french
-  bounded-cardinal s = record { small = λ w. inverse.few-digits (inverse.cardinals (french S)) (omega arith) (omega arith) w; some = λ w. said (french S) w .2 refl }
+  bounded-cardinal s = record { small = λ w. laws.few-digits (laws.cardinals (french S)) (omega arith) (omega arith) w; some = λ w. said (french S) w .2 refl }
 
   pub bounded-nth : (s : List ℕ) → Bounded (SaysNth S s)
-  bounded-nth s = record { small = λ w. inverse.few-digits nths (omega arith) (omega arith) w; some = λ w. clash (sym (said-nth S w .2)) }
+  bounded-nth s = record { small = λ w. laws.few-digits nths (omega arith) (omega arith) w; some = λ w. clash (sym (said-nth S w .2)) }
 
   pub cardinals : frFromCardinal S .refusal ≡ 0 → Inverse (λ (t : List ℕ). Admitted (cardinalRefusals frenchDigitLimit t)) (frToCardinal S) (frFromCardinal S)
   unfolding french
   cardinals v =
       closing.inverse v (λ t a. behind-settings (frenchRanges S) (cardinalRefusals frenchDigitLimit t) v ∙ a) (λ t a. sym (behind-settings (frenchRanges S) (cardinalRefusals frenchDigitLimit t) v) ∙ a)
-      (inverse.readable (inverse.cardinals (french S)) (omega arith) (omega arith) (λ s. isMinus (meanings s)) (λ s. total (guessed (behindMinus (meanings s))))
+      (laws.readable (laws.cardinals (french S)) (omega arith) (omega arith) (λ s. isMinus (meanings s)) (λ s. total (guessed (behindMinus (meanings s))))
       (λ s. right S (in-range (frenchRanges S) v) s _ refl _ refl))
 
   pub ordinals : frFromOrdinal S .refusal ≡ 0 → Inverse (λ (t : List ℕ). Admitted (ordinalRefusals frenchDigitLimit t)) (frToOrdinal S) (frFromOrdinal S)
   ordinals v =
       closing.inverse v (λ t a. behind-settings (frenchRanges S) (ordinalRefusals frenchDigitLimit t) v ∙ a) (λ t a. sym (behind-settings (frenchRanges S) (ordinalRefusals frenchDigitLimit t) v) ∙ a)
-      (inverse.readable nths (omega arith) (omega arith) (λ s. false) (λ s. total (guessed (meanings s))) (λ s. right-nth S (in-range (frenchRanges S) v) s _ refl))
+      (laws.readable nths (omega arith) (omega arith) (λ s. false) (λ s. total (guessed (meanings s))) (λ s. right-nth S (in-range (frenchRanges S) v) s _ refl))

@@ -14,6 +14,7 @@ ghost use Rattle.plan.specs.Phrase.{phraseOf};
 ghost use Rattle.plan.specs.Plan.{says};
 ghost use Rattle.fr.specs.Pool.{frPool};
 ghost use Rattle.base.specs.Join.{spacedBy};
+ghost use Rattle.base.specs.Room.{mostPieces};
 ghost use Rattle.settings.specs.Settings.{frenchRanges, Within};
 ghost use Rattle.settings.specs.Packed.{settingsIn};
 ghost use Rattle.cardinals.specs.Cardinal.{groupOf, cardinalWords, cardinalPhrase};
@@ -27,7 +28,7 @@ ghost use Rattle.fr_plan.specs.Groups34.{Groups34};
 // How many groups a number has.
 pub const ORDERS: usize = 34;
 
-// How many pieces a plan has room for: no phrase has more than five for each group, and two.
+// How many pieces a plan has room for, `mostPieces`: no phrase has more than five for each group, and two.
 pub const PLAN: usize = 172;
 
 // A separator that says nothing.
@@ -213,9 +214,9 @@ pub fn plan_cardinal(
     gs: &[u16; ORDERS],
     plan: &mut [u32; PLAN],
 ) -> usize
-    requires { ⌜ Within (frenchRanges settings) × ZeroFrom (now gs) n × (n ≤ 34) × (172 ≤ length (now plan)) ⌝ }
+    requires { ⌜ Within (frenchRanges settings) × ZeroFrom (now gs) n × (n ≤ 34) × (mostPieces ≤ length (now plan)) ⌝ }
     requires { ⌜ Groups34 (now gs) × (zero ≡ eqb (total (now gs)) 0) ⌝ }
-    ensures { λ r. ⌜ (r ≤ 172) × (phraseOf (says frPool (now (plan .exit)) r) ≡ cardinalPhrase (french settings) negative (total (now (gs .entry)))) × (length (now (plan .exit)) ≡ length (now (plan .entry))) ⌝ }
+    ensures { λ r. ⌜ (r ≤ mostPieces) × (phraseOf (says frPool (now (plan .exit)) r) ≡ cardinalPhrase (french settings) negative (total (now (gs .entry)))) × (length (now (plan .exit)) ≡ length (now (plan .entry))) ⌝ }
 {
     plan_words(settings, zero, negative, n, gs, plan)
 }
@@ -228,8 +229,8 @@ pub fn plan_ordinal(
     gs: &[u16; ORDERS],
     plan: &mut [u32; PLAN],
 ) -> usize
-    requires { ⌜ (now lent ≡ frPool) × Within (frenchRanges settings) × Groups34 (now gs) × Highest (now gs) n × (172 ≤ length (now plan)) ⌝ }
-    ensures { λ r. ⌜ (r ≤ 172) × (phraseOf (says frPool (now (plan .exit)) r) ≡ nthPhrase settings (total (now (gs .entry)))) × (length (now (plan .exit)) ≡ length (now (plan .entry))) ⌝ }
+    requires { ⌜ (now lent ≡ frPool) × Within (frenchRanges settings) × Groups34 (now gs) × Highest (now gs) n × (mostPieces ≤ length (now plan)) ⌝ }
+    ensures { λ r. ⌜ (r ≤ mostPieces) × (phraseOf (says frPool (now (plan .exit)) r) ≡ nthPhrase settings (total (now (gs .entry)))) × (length (now (plan .exit)) ≡ length (now (plan .entry))) ⌝ }
 {
     if groups::is(n, gs, 1) {
         return join(settings, fr::PREMIER, plan, 0);

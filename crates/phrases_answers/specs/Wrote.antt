@@ -7,7 +7,7 @@ use lib.ListN.{length}
 use Rattle.base.specs.Buffer.{over}
 use Rattle.base.specs.Room.{lineRoom}
 
--- the line a was written over the front of the buffer xs, which then holds ys; r is its length
+-- the line a was written over the front of the buffer xs, which then holds ys; r is its length, at most `lineRoom`
 pub record Wrote (a : List ℕ) (r : ℕ) (xs ys : List ℕ) : Type 0 where
   pub size : r ≡ length a
   pub room : r ≤ lineRoom

@@ -19,7 +19,7 @@ ghost use Rattle.plan.specs.Stands.{stands as standsAs};
 // A plan's number is a place times this, and a separator.
 pub const SEPARATORS: u32 = 256;
 
-// What no piece is longer than, with its separator.
+// What no piece is longer than, with its separator: `longestPiece`.
 const LONGEST: usize = 40;
 
 // Adds a piece to a plan of which `at` are written; returns how many are written then.
@@ -128,7 +128,8 @@ fn speak_measured(pool: &[u8], plan: &[u32], n: usize, out: &mut [u8]) -> Answer
     }
 }
 
-// Answers with what the first n pieces of a plan say. No piece has more than 40 bytes, so it is measured only where out might not hold it.
+// Answers with what the first n pieces of a plan say. No piece with its separator is longer than LONGEST, so the phrase is measured only where out
+// might not hold it.
 pub fn speak(pool: &[u8], plan: &[u32], n: usize, out: &mut [u8]) -> Answer
     requires { ⌜ (n ≤ length (now plan)) × (n ≤ 1000) ⌝ }
     ensures { λ r. ⌜ Answers r (now (out .entry)) (now (out .exit)) (fitted (now (out .entry)) (phraseOf (says (now (pool .entry)) (now (plan .entry)) n))) ⌝ }

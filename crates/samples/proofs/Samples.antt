@@ -66,12 +66,12 @@ unfolding frenchRules frenchReader
 un-mille =
     no-sentence (right usualFrench (in-range (frenchRanges usualFrench) refl) (utf8 "un mille") false refl (0 ∷ 1 ∷ below.zeros 32) (sym (below.one-below 1 1 32 []))) refl refl
 
--- line by line, as in the tables
+-- pairs without brackets
 infixr 2 _&_
 _&_ : {A B : Type 0} → A → B → A × B
 a & b = (a, b)
 
--- of `п'ять` the reader makes 0: an ASCII apostrophe ends a word, and `п` means nothing
+-- every line of the table holds, line by line; of `п'ять`, in the last one, the reader makes 0: an ASCII apostrophe ends a word, and `п` means nothing
 pub samples-hold : All sampleTable
 unfolding ordinalRules moneyRules frenchRules ukrainianReader
 samples-hold =

@@ -84,8 +84,8 @@ samples =
     passes (ukCard usual "999999999999999999999999999999999999999999999999999999999999999999") ∷
     readsNot (ukFromCardinal usual) "два тисячі" ∷ []
 
--- "Errors of habit", each right phrase beside the wrong one, and that reading calls refuse wrong ones: "genitive after five in every case; `двохсотий` for
--- 200th; `un mille`; an ASCII apostrophe for U+02BC"
+-- "Errors of habit", each right phrase beside the wrong one, and that reading calls refuse wrong ones: "genitive after five in every case" (which is right
+-- in the nominative and the genitive); "`двохсотий` for 200th; `un mille`; an ASCII apostrophe for U+02BC"
 abbrev pub habits : List Sample
 habits =
     spells (ukCard usual "5000") "пʼять тисяч" ∷

@@ -10,7 +10,7 @@ use Rattle.settings.specs.Settings.{ukrainianRanges}
 use Rattle.settings.specs.declared.Settings.{Settings}
 use Rattle.settings.proofs.Ranges.{in-range, behind-settings}
 use Rattle.figures.specs.Refusals.{ukrainianDigitLimit, cardinalRefusals, Admitted}
-use Rattle.cardinals.proofs.Inverse as inverse
+use Rattle.cardinals.proofs.Inverse as laws
 use Rattle.uk.specs.Ukrainian.{ukrainian}
 use Rattle.uk_read.proofs.Compared.{madeSign, madeNumber, made}
 use Rattle.uk_calls.specs.UkCardinals.{ukToCardinal, ukFromCardinal}
@@ -19,4 +19,4 @@ pub cardinals : (S : Settings) → ukFromCardinal S .refusal ≡ 0 → Inverse (
 unfolding ukrainian
 cardinals S v =
     closing.inverse v (λ t a. behind-settings (ukrainianRanges S) (cardinalRefusals ukrainianDigitLimit t) v ∙ a) (λ t a. sym (behind-settings (ukrainianRanges S) (cardinalRefusals ukrainianDigitLimit t) v) ∙ a)
-    (inverse.readable (inverse.cardinals (ukrainian S)) (omega arith) (omega arith) madeSign madeNumber (made S (in-range (ukrainianRanges S) v)))
+    (laws.readable (laws.cardinals (ukrainian S)) (omega arith) (omega arith) madeSign madeNumber (made S (in-range (ukrainianRanges S) v)))
