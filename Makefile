@@ -1,23 +1,37 @@
 # Yokepear. Each target works from a fresh checkout; the toolchain's command `rt` must be on the PATH.
-.PHONY: test phrases lib host compare bench clean
+.PHONY: test prove phrases lib install host compare bench clean
+
+sources := crates.txt $(shell find crates -name '*.rt' -o -name '*.antt')
 
 # The generated files, the gate (every proof and every must-fail edit), the host's tests and the comparison. The last line is the verdict.
 test:
 	bash tools/test.sh
 
+# The proofs alone, from nothing.
+prove:
+	@tools/prove.sh all
+
 # The program: answers the lines of standard input. What building it says goes to standard error.
 phrases: target/bin/phrases
 	@target/bin/phrases
 
-target/bin/phrases: crates.txt $(shell find crates -name '*.rt' -o -name '*.antt')
-	@rt check phrases >&2 < /dev/null
+target/bin/phrases: $(sources)
+	@tools/prove.sh program phrases >&2 < /dev/null
 	@touch $@
 
 # The static library and its header, in target/yokepear.
-lib:
-	rt staticlib yokepear
-	mkdir -p target/yokepear
-	cp target/staticlib/libyokepear.a include/yokepear.h target/yokepear/
+lib: target/staticlib/libyokepear.a
+	@mkdir -p target/yokepear
+	@cp target/staticlib/libyokepear.a include/yokepear.h target/yokepear/
+
+target/staticlib/libyokepear.a: $(sources)
+	@tools/prove.sh library yokepear
+	@touch $@
+
+# The library, its header, a pkg-config file and the licences below PREFIX; DESTDIR stands before it, for packagers.
+PREFIX ?= /usr/local
+install: lib
+	@PREFIX='$(PREFIX)' DESTDIR='$(DESTDIR)' tools/install.sh
 
 # The host's tests alone: C calls with guarded buffers.
 host: lib

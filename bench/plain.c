@@ -36,7 +36,7 @@ plain_answer say(const plan *p, uint8_t *out, size_t out_length) {
   for (size_t i = 1; i < p->count; i++)
     length += p->pieces[i].said->length + (size_t)(p->pieces[i].joiner != 0);
   plain_answer a = {length > out_length ? 7 : 0, length};
-  if (a.number) return a;
+  if (a.refusal) return a;
   for (size_t i = 0; i < p->count; i++) {
     if (i && p->pieces[i].joiner) *out++ = (uint8_t)p->pieces[i].joiner;
     memcpy(out, p->pieces[i].said->bytes, p->pieces[i].said->length);

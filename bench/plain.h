@@ -10,7 +10,7 @@
 #include <stdint.h>
 
 typedef struct {
-  uint32_t number;
+  uint32_t refusal;
   size_t length;
 } plain_answer;
 

@@ -9,14 +9,14 @@ pub type Subject = Box<dyn Fn(&Input, &mut [u8]) -> usize>;
 
 #[repr(C)]
 struct Answer {
-    number: u32,
+    refusal: u32,
     length: usize,
 }
 
 impl Answer {
     /// The length; a refusal would make the measurement worthless.
     fn length(self) -> usize {
-        assert!(self.number == 0, "refused {}", self.number);
+        assert!(self.refusal == 0, "refused {}", self.refusal);
         self.length
     }
 }

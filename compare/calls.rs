@@ -2,11 +2,11 @@
 
 use crate::kinds::{Kind, Manner};
 
-/// The answer of every call: number 0 and the answer's length, or a refusal.
+/// The answer of every call: refusal 0 and the answer's length, or the number of a refusal.
 #[repr(C)]
 #[derive(Clone, Copy, PartialEq, Eq, Debug)]
 pub struct Answer {
-    pub number: u32,
+    pub refusal: u32,
     pub length: usize,
 }
 

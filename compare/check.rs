@@ -1,4 +1,4 @@
-//! Asks one call and compares its number, its length and every byte of its buffer.
+//! Asks one call and compares its refusal, its length and every byte of its buffer.
 
 use crate::calls::{self, Answer};
 use crate::expect::{self, Expected};
@@ -61,9 +61,9 @@ impl Checker {
         let fail = |what| difference(manner, false, text, what);
         let ask = |out: &mut [u8]| calls::spell(manner, text, out);
         match expect::spelling(manner, text) {
-            Expected::Refused(number) => {
+            Expected::Refused(refusal) => {
                 self.counts.refused += 1;
-                self.compare(ROOM, Outcome::Refused(number), ask).map_err(fail)
+                self.compare(ROOM, Outcome::Refused(refusal), ask).map_err(fail)
             }
             Expected::Said(phrase) => {
                 self.counts.spelled += 1;
@@ -138,9 +138,9 @@ impl Checker {
     ) -> Result<(), String> {
         let answer = ask(&mut self.buffer[..room]);
         let (expected, bytes): (Answer, &[u8]) = match outcome {
-            Outcome::Refused(number) => (Answer { number, length: 0 }, &[]),
-            Outcome::Bytes(b) if b.len() > room => (Answer { number: 7, length: b.len() }, &[]),
-            Outcome::Bytes(b) => (Answer { number: 0, length: b.len() }, b),
+            Outcome::Refused(refusal) => (Answer { refusal, length: 0 }, &[]),
+            Outcome::Bytes(b) if b.len() > room => (Answer { refusal: 7, length: b.len() }, &[]),
+            Outcome::Bytes(b) => (Answer { refusal: 0, length: b.len() }, b),
         };
         let (front, rest) = self.buffer.split_at(bytes.len());
         let same = front == bytes && rest == &UNTOUCHED[bytes.len()..];

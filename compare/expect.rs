@@ -16,7 +16,7 @@ pub enum Expected {
 pub fn spelling(manner: &Manner, text: &[u8]) -> Expected {
     let refused = refusal_of_manner(manner).or_else(|| refusal_of_text(manner.kind, text));
     match refused {
-        Some(number) => Expected::Refused(number),
+        Some(refusal) => Expected::Refused(refusal),
         None => Expected::Said(phrase(manner, text)),
     }
 }

@@ -10,7 +10,7 @@ pub const LONGEST: usize = 512;
 pub fn answer(line: &[u8]) -> String {
     let Some((manner, text)) = meaning(line) else { return "bad line".to_string() };
     match expect::spelling(&manner, text) {
-        Expected::Refused(number) => format!("refused {number}"),
+        Expected::Refused(refusal) => format!("refused {refusal}"),
         Expected::Said(phrase) => phrase,
     }
 }

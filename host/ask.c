@@ -1,19 +1,45 @@
 #include "ask.h"
 
+#include <stdio.h>
 #include <string.h>
 
+/* A function for each call that hands a request on, with settings by name. */
+#define BY_NAME(call, ...)                                                                     \
+  static yokepear_answer call##_by_name(const struct request *r, uint8_t *out, size_t length) { \
+    return yokepear_##call##_in(__VA_ARGS__, out, length);                                      \
+  }
+#define UK_TEXT r->settings.uk, r->input, r->input_length
+#define UK_YEAR r->settings.uk, r->year
+#define UK_MONEY r->settings.uk, r->code, r->code_length, r->input, r->input_length
+#define FR_TEXT r->settings.fr, r->input, r->input_length
+
+BY_NAME(uk_to_cardinal, UK_TEXT)
+BY_NAME(uk_from_cardinal, UK_TEXT)
+BY_NAME(uk_to_ordinal, UK_TEXT)
+BY_NAME(uk_to_ordinal_num, UK_TEXT)
+BY_NAME(uk_to_year, UK_YEAR)
+BY_NAME(uk_to_currency, UK_MONEY)
+BY_NAME(uk_from_currency, UK_MONEY)
+BY_NAME(fr_to_cardinal, FR_TEXT)
+BY_NAME(fr_from_cardinal, FR_TEXT)
+BY_NAME(fr_to_ordinal, FR_TEXT)
+BY_NAME(fr_from_ordinal, FR_TEXT)
+
+#define BOTH_FORMS(call, form) \
+  .name = #call, .by_name = call##_by_name, .form = yokepear_##call
+
 struct call calls[] = {
-    {"uk_to_cardinal", CARDINAL, 0, 0, yokepear_uk_to_cardinal, 0, 0, 0, 0, 0},
-    {"uk_from_cardinal", CARDINAL, 0, 1, yokepear_uk_from_cardinal, 0, 0, 0, 0, 0},
-    {"fr_to_cardinal", CARDINAL, 1, 0, yokepear_fr_to_cardinal, 0, 0, 0, 0, 0},
-    {"fr_from_cardinal", CARDINAL, 1, 1, yokepear_fr_from_cardinal, 0, 0, 0, 0, 0},
-    {"fr_to_ordinal", ORDINAL, 1, 0, yokepear_fr_to_ordinal, 0, 0, 0, 0, 0},
-    {"fr_from_ordinal", ORDINAL, 1, 1, yokepear_fr_from_ordinal, 0, 0, 0, 0, 0},
-    {"uk_to_currency", MONEY, 0, 0, 0, yokepear_uk_to_currency, 0, 0, 0, 0},
-    {"uk_from_currency", MONEY, 0, 1, 0, yokepear_uk_from_currency, 0, 0, 0, 0},
-    {"uk_to_ordinal", ORDINAL, 0, 0, yokepear_uk_to_ordinal, 0, 0, 0, 0, 0},
-    {"uk_to_ordinal_num", DIGIT_ORDINAL, 0, 0, yokepear_uk_to_ordinal_num, 0, 0, 0, 0, 0},
-    {"uk_to_year", YEAR, 0, 0, 0, 0, yokepear_uk_to_year, 0, 0, 0},
+    {BOTH_FORMS(uk_to_cardinal, uk_on_text), .kind = CARDINAL},
+    {BOTH_FORMS(uk_from_cardinal, uk_on_text), .kind = CARDINAL, .reading = 1},
+    {BOTH_FORMS(fr_to_cardinal, fr_on_text), .kind = CARDINAL, .french = 1},
+    {BOTH_FORMS(fr_from_cardinal, fr_on_text), .kind = CARDINAL, .french = 1, .reading = 1},
+    {BOTH_FORMS(fr_to_ordinal, fr_on_text), .kind = ORDINAL, .french = 1},
+    {BOTH_FORMS(fr_from_ordinal, fr_on_text), .kind = ORDINAL, .french = 1, .reading = 1},
+    {BOTH_FORMS(uk_to_currency, uk_on_money), .kind = MONEY},
+    {BOTH_FORMS(uk_from_currency, uk_on_money), .kind = MONEY, .reading = 1},
+    {BOTH_FORMS(uk_to_ordinal, uk_on_text), .kind = ORDINAL},
+    {BOTH_FORMS(uk_to_ordinal_num, uk_on_text), .kind = DIGIT_ORDINAL},
+    {BOTH_FORMS(uk_to_year, uk_on_year), .kind = YEAR},
 };
 
 const size_t call_count = sizeof calls / sizeof *calls;
@@ -42,25 +68,40 @@ struct call *reading_call(const struct call *spelling) {
   return 0;
 }
 
+int setting_count(const struct call *call) { return call->french ? FR_SETTINGS : UK_SETTINGS; }
+
 uint32_t setting_size(const struct call *call, int setting) {
-  static const uint32_t ukrainian[3] = {3, 2, 6}, french[3] = {2, 2, 3};
+  static const uint32_t ukrainian[UK_SETTINGS] = {3, 2, 6}, french[FR_SETTINGS] = {2, 2, 3};
   return call->french ? french[setting] : ukrainian[setting];
 }
 
-int next_settings(const struct call *call, uint32_t settings[3]) {
-  for (int i = 2; i >= 0; i--) {
-    if (++settings[i] < setting_size(call, i)) return 1;
-    settings[i] = 0;
+int next_settings(const struct call *call, union settings *settings) {
+  for (int i = setting_count(call) - 1; i >= 0; i--) {
+    if (++settings->numbers[i] < setting_size(call, i)) return 1;
+    settings->numbers[i] = 0;
   }
   return 0;
 }
 
+void show_call(const struct request *r) {
+  printf("yokepear_%s, settings", r->call->name);
+  for (int i = 0; i < setting_count(r->call); i++) printf(" %u", r->settings.numbers[i]);
+}
+
 yokepear_answer ask(const struct request *r, uint8_t *out, size_t out_length) {
-  const uint32_t *s = r->settings;
   r->call->asked++;
-  if (r->call->on_year) return r->call->on_year(s[0], s[1], s[2], r->year, out, out_length);
-  if (r->call->on_money)
-    return r->call->on_money(s[0], s[1], s[2], r->code, r->code_length, r->input, r->input_length,
+  return r->call->by_name(r, out, out_length);
+}
+
+yokepear_answer ask_by_number(const struct request *r, uint8_t *out, size_t out_length) {
+  struct call *call = r->call;
+  const uint32_t *s = r->settings.numbers;
+  call->asked++;
+  if (call->uk_on_year) return call->uk_on_year(s[0], s[1], s[2], r->year, out, out_length);
+  if (call->uk_on_money)
+    return call->uk_on_money(s[0], s[1], s[2], r->code, r->code_length, r->input, r->input_length,
                              out, out_length);
-  return r->call->on_text(s[0], s[1], s[2], r->input, r->input_length, out, out_length);
+  if (call->uk_on_text)
+    return call->uk_on_text(s[0], s[1], s[2], r->input, r->input_length, out, out_length);
+  return call->fr_on_text(s[0], s[1], s[2], r->input, r->input_length, out, out_length);
 }

@@ -4,36 +4,55 @@
 
 #include "yokepear.h"
 
-typedef yokepear_answer text_call(uint32_t, uint32_t, uint32_t, const uint8_t *, size_t, uint8_t *,
-                                  size_t);
-typedef yokepear_answer money_call(uint32_t, uint32_t, uint32_t, const uint8_t *, size_t,
-                                   const uint8_t *, size_t, uint8_t *, size_t);
-typedef yokepear_answer year_call(uint32_t, uint32_t, uint32_t, int64_t, uint8_t *, size_t);
+enum {
+  UK_SETTINGS = sizeof(yokepear_uk) / sizeof(uint32_t),
+  FR_SETTINGS = sizeof(yokepear_fr) / sizeof(uint32_t),
+  SETTINGS = UK_SETTINGS > FR_SETTINGS ? UK_SETTINGS : FR_SETTINGS
+};
 
-/* What a spelling call speaks; a reading call reads the same. */
-enum kind { CARDINAL, ORDINAL, DIGIT_ORDINAL, MONEY, YEAR };
-
-/* A call: its name without the prefix, what it speaks, and one of the three pointers. */
-struct call {
-  const char *name;
-  enum kind kind;
-  int french, reading;
-  text_call *on_text;
-  money_call *on_money;
-  year_call *on_year;
-  /* What was done with it. */
-  unsigned long answers, refusals, asked;
+/* The settings of a call in either language, by name and as numbers in the order of their fields. */
+union settings {
+  yokepear_uk uk;
+  yokepear_fr fr;
+  uint32_t numbers[SETTINGS];
 };
 
 /* Everything that a call is given but the buffer. */
 struct request {
   struct call *call;
-  uint32_t settings[3];
+  union settings settings;
   const uint8_t *code;
   size_t code_length;
   const uint8_t *input;
   size_t input_length;
   int64_t year;
+};
+
+typedef yokepear_answer uk_text_call(uint32_t, uint32_t, uint32_t, const void *, size_t, void *,
+                                     size_t);
+typedef yokepear_answer uk_money_call(uint32_t, uint32_t, uint32_t, const void *, size_t,
+                                      const void *, size_t, void *, size_t);
+typedef yokepear_answer uk_year_call(uint32_t, uint32_t, uint32_t, int64_t, void *, size_t);
+typedef yokepear_answer fr_text_call(uint32_t, uint32_t, uint32_t, const void *, size_t, void *,
+                                     size_t);
+
+/* What a spelling call speaks; a reading call reads the same. */
+enum kind { CARDINAL, ORDINAL, DIGIT_ORDINAL, MONEY, YEAR };
+
+/* A call: its name without the prefix, what it speaks, how it is asked. */
+struct call {
+  const char *name;
+  enum kind kind;
+  int french, reading;
+  /* The header's form that takes settings by name. */
+  yokepear_answer (*by_name)(const struct request *, uint8_t *, size_t);
+  /* The library's own, on numbers: one of these. */
+  uk_text_call *uk_on_text;
+  uk_money_call *uk_on_money;
+  uk_year_call *uk_on_year;
+  fr_text_call *fr_on_text;
+  /* What was done with it. */
+  unsigned long answers, refusals, asked;
 };
 
 extern struct call calls[];
@@ -49,12 +68,22 @@ struct call *find_call(const char *name);
 /* The reading call of the same kind and language, or null. */
 struct call *reading_call(const struct call *spelling);
 
+/* How many settings the call has. */
+int setting_count(const struct call *call);
+
 /* How many numbers the setting has. */
 uint32_t setting_size(const struct call *call, int setting);
 
 /* The next settings in order; 0 after the last. */
-int next_settings(const struct call *call, uint32_t settings[3]);
+int next_settings(const struct call *call, union settings *settings);
 
+/* Prints the name of the request's call and its settings. */
+void show_call(const struct request *request);
+
+/* Asks with settings by name, as the tests do. */
 yokepear_answer ask(const struct request *request, uint8_t *out, size_t out_length);
+
+/* Asks with settings as numbers. */
+yokepear_answer ask_by_number(const struct request *request, uint8_t *out, size_t out_length);
 
 #endif

@@ -19,10 +19,10 @@ static const struct request *asking;
 static void show(const char *what) {
   const struct request *r = asking;
   if (!r) return;
-  printf("%s: yokepear_%s, settings %u %u %u", what, r->call->name, r->settings[0], r->settings[1],
-         r->settings[2]);
-  if (r->call->on_money) printf(", code [%.*s]", (int)r->code_length, (const char *)r->code);
-  if (r->call->on_year)
+  printf("%s: ", what);
+  show_call(r);
+  if (r->call->kind == MONEY) printf(", code [%.*s]", (int)r->code_length, (const char *)r->code);
+  if (r->call->kind == YEAR)
     printf(", year %lld\n", (long long)r->year);
   else
     printf(", input of %zu bytes [%.*s]\n", r->input_length,
@@ -55,44 +55,50 @@ void start_expecting(void) {
   signal(SIGBUS, fault);
 }
 
-static void differ(const char *what, yokepear_answer got, uint32_t number, size_t length,
+static void differ(const char *what, yokepear_answer got, uint32_t refusal, size_t length,
                    size_t room) {
   show("DIFFERENCE");
-  printf("  %s, in a buffer of %zu: answered %u %zu, expected %u %zu\n", what, room, got.number,
-         got.length, number, length);
+  printf("  %s, in a buffer of %zu: answered %u %zu, expected %u %zu\n", what, room, got.refusal,
+         got.length, refusal, length);
   exit(1);
 }
 
-/* Asks with a buffer of `room` bytes at `at` of the block; every byte of the block is compared. */
-static void expect_at(const struct request *r, uint32_t number, const uint8_t *bytes, size_t length,
-                      size_t room, size_t at, int fill) {
+/*
+ * Asks with a buffer of `room` bytes at `at` of the block; every byte of the block is compared.
+ * With one fill the settings are given by name, with the other as numbers: so each of a call's two
+ * forms is held to the same answer, in every test.
+ */
+static void expect_at(const struct request *r, uint32_t refusal, const uint8_t *bytes,
+                      size_t length, size_t room, size_t at, int fill) {
   memcpy(want, fills[fill], out_block.size);
   memcpy(out_block.bytes, want, out_block.size);
-  uint32_t want_number = number ? number : length > room ? 7 : 0;
-  size_t want_length = number ? 0 : length;
-  if (!want_number && length) memcpy(want + at, bytes, length);
-  yokepear_answer got = ask(r, out_block.bytes + at, room);
-  if (got.number != want_number || got.length != want_length)
-    differ("number or length", got, want_number, want_length, room);
+  uint32_t want_refusal = refusal ? refusal : length > room ? 7 : 0;
+  size_t want_length = refusal ? 0 : length;
+  if (!want_refusal && length) memcpy(want + at, bytes, length);
+  uint8_t *out = out_block.bytes + at;
+  yokepear_answer got = fill ? ask_by_number(r, out, room) : ask(r, out, room);
+  if (got.refusal != want_refusal || got.length != want_length)
+    differ("refusal or length", got, want_refusal, want_length, room);
   if (memcmp(out_block.bytes, want, out_block.size))
-    differ("bytes of the buffer or around it", got, want_number, want_length, room);
+    differ("bytes of the buffer or around it", got, want_refusal, want_length, room);
 }
 
 /* A buffer of this length: at the block's end, at its front and amid it, with both fills. */
-static void expect_room(const struct request *r, uint32_t number, const uint8_t *bytes,
+static void expect_room(const struct request *r, uint32_t refusal, const uint8_t *bytes,
                         size_t length, size_t room) {
   size_t last = out_block.size - room;
   size_t places[3] = {last, 0, last / 2};
   for (int i = 0; i < 3; i++)
-    for (int fill = 0; fill < 2; fill++) expect_at(r, number, bytes, length, room, places[i], fill);
+    for (int fill = 0; fill < 2; fill++)
+      expect_at(r, refusal, bytes, length, room, places[i], fill);
 }
 
 /* No buffer at all. */
-static void expect_null(const struct request *r, uint32_t number, size_t length) {
-  uint32_t want_number = number ? number : length ? 7 : 0;
+static void expect_null(const struct request *r, uint32_t refusal, size_t length) {
+  uint32_t want_refusal = refusal ? refusal : length ? 7 : 0;
   yokepear_answer got = ask(r, 0, 0);
-  if (got.number != want_number || got.length != (number ? 0 : length))
-    differ("a null buffer", got, want_number, number ? 0 : length, 0);
+  if (got.refusal != want_refusal || got.length != (refusal ? 0 : length))
+    differ("a null buffer", got, want_refusal, refusal ? 0 : length, 0);
 }
 
 /* The same request with its inputs in read-only blocks, at their ends or fronts. */
@@ -105,15 +111,15 @@ static struct request placed(const struct request *r, int at_end) {
   return copy;
 }
 
-static void expect(const struct request *r, uint32_t number, const uint8_t *bytes, size_t length) {
+static void expect(const struct request *r, uint32_t refusal, const uint8_t *bytes, size_t length) {
   size_t rooms[] = {LARGE, 0, 1, length + 1, length + 2, length, length - (length > 0),
                     length - 2 * (length > 1)};
   for (int at_end = 0; at_end < 2; at_end++) {
     struct request copy = placed(r, at_end);
     asking = &copy;
     for (size_t i = 0; i < sizeof rooms / sizeof *rooms; i++)
-      expect_room(&copy, number, bytes, length, rooms[i]);
-    expect_null(&copy, number, length);
+      expect_room(&copy, refusal, bytes, length, rooms[i]);
+    expect_null(&copy, refusal, length);
     asking = 0;
   }
 }
@@ -123,15 +129,15 @@ void expect_answer(const struct request *r, const uint8_t *bytes, size_t length)
   expect(r, 0, bytes, length);
 }
 
-void expect_refusal(const struct request *r, uint32_t number) {
+void expect_refusal(const struct request *r, uint32_t refusal) {
   r->call->refusals++;
-  expect(r, number, 0, 0);
+  expect(r, refusal, 0, 0);
 }
 
 size_t answer_of(const struct request *r, uint8_t out[LARGE]) {
   asking = r;
   yokepear_answer got = ask(r, out, LARGE);
-  if (got.number || got.length > LARGE) differ("a refusal", got, 0, 0, LARGE);
+  if (got.refusal || got.length > LARGE) differ("a refusal", got, 0, 0, LARGE);
   asking = 0;
   return got.length;
 }

@@ -14,7 +14,7 @@ void start_expecting(void);
 void expect_answer(const struct request *request, const uint8_t *bytes, size_t length);
 
 /* The request must be refused by this number whatever the buffer. */
-void expect_refusal(const struct request *request, uint32_t number);
+void expect_refusal(const struct request *request, uint32_t refusal);
 
 /* The answer in a large buffer, which must not be a refusal; its length. */
 size_t answer_of(const struct request *request, uint8_t out[LARGE]);

@@ -72,9 +72,9 @@ size_t length_asked(const struct request *request, const struct figure *f) {
   struct request r = *request;
   set_figure(&r, f, text);
   yokepear_answer answer = ask(&r, 0, 0);
-  if (answer.number == YOKEPEAR_SHORT_BUFFER) return answer.length;
-  printf("DIFFERENCE: yokepear_%s, settings %u %u %u, %s\n", r.call->name, r.settings[0],
-         r.settings[1], r.settings[2], text);
-  printf("  asked without a buffer: answered %u %zu\n", answer.number, answer.length);
+  if (answer.refusal == YOKEPEAR_SHORT_BUFFER) return answer.length;
+  printf("DIFFERENCE: ");
+  show_call(&r);
+  printf(", %s\n  asked without a buffer: answered %u %zu\n", text, answer.refusal, answer.length);
   exit(1);
 }

@@ -1,22 +1,75 @@
 #!/bin/bash
-# Compiles the header alone as C99 and C++ with all warnings on, and compares the calls that it
-# declares with those that the archive has.
+# Compiles the header alone as C and C++ with all warnings on, shows that settings cannot change
+# places, and compares the calls that it declares with those that the archive has.
 set -euo pipefail
 . "$(dirname "${BASH_SOURCE[0]}")/common.sh"
+header=$include/yokepear.h
+all=("${warnings[@]}" -Wconversion -Wsign-conversion -Wundef -Wshadow -fsyntax-only "-I$include")
+as_c=("${all[@]}" -Wstrict-prototypes -Wmissing-prototypes -Wc++-compat -x c)
+as_cpp=("${all[@]}" -Wold-style-cast -x c++)
 
-check_header() {
-  local more=("${warnings[@]}" -Wconversion -Wundef -fsyntax-only)
-  "${CC:-gcc}" -std=c99 "${more[@]}" -Wstrict-prototypes -x c "$1"
-  "${CXX:-g++}" -std=c++11 "${more[@]}" -Wold-style-cast -x c++ "$1"
+# The compilers that are there; the first of each kind must be.
+c_compilers=("${CC:-gcc}") cpp_compilers=("${CXX:-g++}")
+if command -v clang > /dev/null; then c_compilers+=(clang); fi
+if command -v clang++ > /dev/null; then cpp_compilers+=(clang++); fi
+
+alone='#include "yokepear.h"'
+for compiler in "${c_compilers[@]}"; do
+  for standard in 99 11 17; do "$compiler" "-std=c$standard" "${as_c[@]}" - <<< "$alone"; done
+done
+for compiler in "${cpp_compilers[@]}"; do
+  for standard in 98 11 17 20; do "$compiler" "-std=c++$standard" "${as_cpp[@]}" - <<< "$alone"; done
+done
+
+# refused WHAT SOURCE COMPILER..: the source must not compile, though the header by itself does.
+refused() {
+  local what=$1 source=$2
+  shift 2
+  if "$@" - <<< "$source" 2> /dev/null; then
+    echo "compiled by ${*:1:2}: $what" >&2
+    exit 1
+  fi
 }
 
-header=$include/yokepear.h
-check_header "$header"
-declared=$(grep -o '^yokepear_answer yokepear_[a-z_]*(' "$header" | sed 's/.* //; s/(//' | sort)
-exported=$(nm --defined-only "$archive" | awk '$2 == "T" {print $3}' | sort)
-if [ "$declared" != "$exported" ]; then
-  echo "the header and the archive have other calls (< header, > archive):" >&2
-  diff <(echo "$declared") <(echo "$exported") >&2
+# only_swapped WHAT RIGHT WRONG COMPILER..: the first line in a function compiles, the second not.
+only_swapped() {
+  local what=$1 right=$2 wrong=$3
+  shift 3
+  local front=$alone'
+extern yokepear_uk made; yokepear_uk made;
+extern void make(void); void make(void) {'
+  "$@" - <<< "$front $right }"
+  refused "$what" "$front $wrong }" "$@"
+}
+
+settings_in_place() {
+  only_swapped 'settings that have changed places' \
+    'yokepear_uk s = {YOKEPEAR_FEMININE, YOKEPEAR_PLURAL, YOKEPEAR_GENITIVE}; made = s;' \
+    'yokepear_uk s = {YOKEPEAR_GENITIVE, YOKEPEAR_FEMININE, YOKEPEAR_PLURAL}; made = s;' "$@"
+  only_swapped 'a case for a gender' \
+    'made.gender = YOKEPEAR_NEUTER;' 'made.gender = YOKEPEAR_DATIVE;' "$@"
+  only_swapped 'the settings of the other language' \
+    'yokepear_uk s = made; (void)yokepear_uk_to_cardinal_in(s, "1", 1, 0, 0);' \
+    'yokepear_uk s = made; (void)yokepear_fr_to_cardinal_in(s, "1", 1, 0, 0);' "$@"
+}
+for compiler in "${c_compilers[@]}"; do settings_in_place "$compiler" -std=c99 "${as_c[@]}"; done
+for compiler in "${cpp_compilers[@]}"; do settings_in_place "$compiler" -std=c++11 "${as_cpp[@]}"; done
+# There a number outside its range could become one inside it.
+refused 'settings of fewer than 32 bits' "$alone" \
+  "${c_compilers[0]}" -std=c99 -fshort-enums "${as_c[@]}"
+
+# same WHAT LIST OTHER: ends with 1 where the lists of calls differ.
+same() {
+  [ "$2" = "$3" ] && return
+  echo "$1:" >&2
+  diff <(echo "$2") <(echo "$3") >&2
   exit 1
-fi
-echo "header: C99 and C++ without a warning, $(wc -l <<< "$declared") calls as in the archive"
+}
+declared=$(grep -o '^yokepear_answer yokepear_[a-z_]*(' "$header" | sed 's/.* //; s/(//' | sort)
+by_name=$(grep -o '^static inline yokepear_answer yokepear_[a-z_]*_in(' "$header" |
+  sed 's/.* //; s/_in(//' | sort)
+exported=$(nm --defined-only "$archive" | awk '$2 == "T" {print $3}' | sort)
+same 'the header and the archive have other calls (< header, > archive)' "$declared" "$exported"
+same 'other calls take settings by name (< all calls, > by name)' "$declared" "$by_name"
+echo "header: ${c_compilers[*]} ${cpp_compilers[*]} without a warning, settings keep their places," \
+  "$(wc -l <<< "$declared") calls as in the archive"

@@ -7,17 +7,17 @@
 #define PHRASE YOKEPEAR_UK_CURRENCY_PHRASE
 #define TEXT YOKEPEAR_UK_CURRENCY_TEXT
 
-static const uint8_t hryvnia[3] = {'U', 'A', 'H'};
+static const char hryvnia[] = {'U', 'A', 'H'};
+static const yokepear_uk nominative = {.grammatical_case = YOKEPEAR_NOMINATIVE};
 
-static yokepear_answer speak(const char *price, uint8_t phrase[PHRASE]) {
-  return yokepear_uk_to_currency(YOKEPEAR_FEMININE, YOKEPEAR_SINGULAR, YOKEPEAR_NOMINATIVE, hryvnia,
-                                 sizeof hryvnia, (const uint8_t *)price, strlen(price), phrase,
-                                 PHRASE);
+static yokepear_answer speak(const char *price, char phrase[PHRASE]) {
+  return yokepear_uk_to_currency_in(nominative, hryvnia, sizeof hryvnia, price, strlen(price),
+                                    phrase, PHRASE);
 }
 
-static yokepear_answer listen(const uint8_t *phrase, size_t length, uint8_t text[TEXT]) {
-  return yokepear_uk_from_currency(YOKEPEAR_FEMININE, YOKEPEAR_SINGULAR, YOKEPEAR_NOMINATIVE,
-                                   hryvnia, sizeof hryvnia, phrase, length, text, TEXT);
+static yokepear_answer listen(const char *phrase, size_t length, char text[TEXT]) {
+  return yokepear_uk_from_currency_in(nominative, hryvnia, sizeof hryvnia, phrase, length, text,
+                                      TEXT);
 }
 
 static const struct {
@@ -29,19 +29,18 @@ static const struct {
 
 /* Speaks a price and reads it back; 1 if it came back as it was. */
 static int item(const char *name, const char *price) {
-  uint8_t phrase[PHRASE], text[TEXT];
+  char phrase[PHRASE], text[TEXT];
   yokepear_answer spoken = speak(price, phrase);
-  if (spoken.number != YOKEPEAR_DONE) {
-    printf("%s: %s is refused (%u)\n", name, price, (unsigned)spoken.number);
+  if (spoken.refusal) {
+    printf("%s: %s: %s\n", name, price, yokepear_refusal_text(spoken.refusal));
     return 0;
   }
   yokepear_answer heard = listen(phrase, spoken.length, text);
-  if (heard.number != YOKEPEAR_DONE) {
-    printf("%s: the phrase is refused (%u)\n", name, (unsigned)heard.number);
+  if (heard.refusal) {
+    printf("%s: read back: %s\n", name, yokepear_refusal_text(heard.refusal));
     return 0;
   }
-  printf("%s: %.*s (%.*s)\n", name, (int)spoken.length, (const char *)phrase, (int)heard.length,
-         (const char *)text);
+  printf("%s: %.*s (%.*s)\n", name, (int)spoken.length, phrase, (int)heard.length, text);
   return heard.length == strlen(price) && !memcmp(text, price, heard.length);
 }
 

@@ -18,7 +18,8 @@ static const struct request *asking;
 static size_t out_length;
 static yokepear_answer answer;
 
-static void run(void) { answer = ask(asking, out, out_length); }
+/* On numbers: that is the library's own call, with nothing of the header between. */
+static void run(void) { answer = ask_by_number(asking, out, out_length); }
 
 /* Runs the request on a stack painted with this byte; how many bytes were in use. */
 static size_t painted(const struct request *r, uint8_t paint) {
@@ -43,17 +44,17 @@ static size_t used(const struct request *r, size_t room) {
 }
 
 /* Calls that do nothing: what asking itself takes. */
-static yokepear_answer no_text(uint32_t a, uint32_t b, uint32_t c, const uint8_t *s, size_t n,
-                               uint8_t *o, size_t room) {
+static yokepear_answer no_text(uint32_t a, uint32_t b, uint32_t c, const void *s, size_t n,
+                               void *o, size_t room) {
   (void)a, (void)b, (void)c, (void)s, (void)n, (void)o, (void)room;
   return (yokepear_answer){0, 0};
 }
-static yokepear_answer no_money(uint32_t a, uint32_t b, uint32_t c, const uint8_t *k, size_t m,
-                                const uint8_t *s, size_t n, uint8_t *o, size_t room) {
+static yokepear_answer no_money(uint32_t a, uint32_t b, uint32_t c, const void *k, size_t m,
+                                const void *s, size_t n, void *o, size_t room) {
   (void)a, (void)b, (void)c, (void)k, (void)m, (void)s, (void)n, (void)o, (void)room;
   return (yokepear_answer){0, 0};
 }
-static yokepear_answer no_year(uint32_t a, uint32_t b, uint32_t c, int64_t year, uint8_t *o,
+static yokepear_answer no_year(uint32_t a, uint32_t b, uint32_t c, int64_t year, void *o,
                                size_t room) {
   (void)a, (void)b, (void)c, (void)year, (void)o, (void)room;
   return (yokepear_answer){0, 0};
@@ -61,9 +62,10 @@ static yokepear_answer no_year(uint32_t a, uint32_t b, uint32_t c, int64_t year,
 
 static size_t asking_alone(const struct call *call) {
   struct call nothing = *call;
-  if (call->on_text) nothing.on_text = no_text;
-  if (call->on_money) nothing.on_money = no_money;
-  if (call->on_year) nothing.on_year = no_year;
+  if (call->uk_on_text) nothing.uk_on_text = no_text;
+  if (call->uk_on_money) nothing.uk_on_money = no_money;
+  if (call->uk_on_year) nothing.uk_on_year = no_year;
+  if (call->fr_on_text) nothing.fr_on_text = no_text;
   struct request r = {0};
   r.call = &nothing;
   return used(&r, 0) - ADDRESS;
@@ -94,7 +96,7 @@ static void spell_input(struct request *r, uint8_t *phrase) {
   spelling.call = spelling_call(r->call);
   if (!spelling.call) return;
   yokepear_answer a = ask(&spelling, phrase, LARGE);
-  if (a.number) return;
+  if (a.refusal) return;
   r->input = phrase;
   r->input_length = a.length;
 }
@@ -143,7 +145,7 @@ static size_t deepest_of(struct call *call) {
   r.code = (const uint8_t *)"ILS";
   r.code_length = 3;
   do most = deeper(most, with_texts(r));
-  while (next_settings(call, r.settings));
+  while (next_settings(call, &r.settings));
   static const char *const long_words[] = {"один ", "сто ", "un ", "cent ", "1", "-"};
   for (size_t i = 0; i < sizeof long_words / sizeof *long_words; i++)
     most = deeper(most, with_words(r, long_words[i]));

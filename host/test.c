@@ -10,6 +10,7 @@ int main(int argc, char **argv) {
     return 2;
   }
   start_expecting();
+  test_header();
   test_table(argv[1]);
   test_texts();
   test_codes();

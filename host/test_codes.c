@@ -64,6 +64,6 @@ void test_codes(void) {
     r.call = &calls[i];
     if (r.call->kind != MONEY) continue;
     do test_setting(r);
-    while (next_settings(r.call, r.settings));
+    while (next_settings(r.call, &r.settings));
   }
 }

@@ -45,7 +45,7 @@ static void refused(struct request r, const uint8_t *phrase, size_t length) {
   r.input = phrase;
   r.input_length = length;
   do expect_refusal(&r, 6);
-  while (next_settings(r.call, r.settings));
+  while (next_settings(r.call, &r.settings));
 }
 
 static void refused_list(const struct request *r, const char *const *phrases, size_t count) {

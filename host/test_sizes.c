@@ -11,32 +11,34 @@
 #define NINES_66 NINES_33 NINES_33
 #define NINES_102 NINES_66 NINES_33 "999"
 
-enum { SETTINGS = 3, SAMPLES = 100 };
+enum { SAMPLES = 100 };
 
 /*
  * A spelling call, the sizes of its phrase and of the text read back (0 if nothing reads it), its
- * limit, the limit below zero (null if it refuses negative figures), and whether each of its
- * settings has an effect.
+ * limit, the limit below zero (null if it refuses negative figures), and which of its settings
+ * have an effect: those are 1.
  */
 static const struct size {
   const char *call;
   size_t phrase, text;
   const char *limit, *below_zero;
-  int effect[SETTINGS];
+  union settings effect;
 } sizes[] = {
     {"uk_to_cardinal", YOKEPEAR_UK_CARDINAL_PHRASE, YOKEPEAR_UK_CARDINAL_TEXT, NINES_66, NINES_66,
-     {1, 0, 1}},
-    {"uk_to_ordinal", YOKEPEAR_UK_ORDINAL_PHRASE, 0, NINES_66, 0, {1, 1, 1}},
+     {.uk = {.gender = 1, .grammatical_case = 1}}},
+    {"uk_to_ordinal", YOKEPEAR_UK_ORDINAL_PHRASE, 0, NINES_66, 0,
+     {.uk = {.gender = 1, .number = 1, .grammatical_case = 1}}},
     {"uk_to_ordinal_num", YOKEPEAR_UK_ORDINAL_NUM_PHRASE, 0,
-     "340282366920938463463374607431768211455", 0, {1, 1, 1}},
+     "340282366920938463463374607431768211455", 0,
+     {.uk = {.gender = 1, .number = 1, .grammatical_case = 1}}},
     {"uk_to_year", YOKEPEAR_UK_YEAR_PHRASE, 0, "9223372036854775807", "9223372036854775808",
-     {0, 1, 1}},
+     {.uk = {.number = 1, .grammatical_case = 1}}},
     {"uk_to_currency", YOKEPEAR_UK_CURRENCY_PHRASE, YOKEPEAR_UK_CURRENCY_TEXT,
-     "18446744073709551615", 0, {0, 0, 1}},
+     "18446744073709551615", 0, {.uk = {.grammatical_case = 1}}},
     {"fr_to_cardinal", YOKEPEAR_FR_CARDINAL_PHRASE, YOKEPEAR_FR_CARDINAL_TEXT, NINES_102, NINES_102,
-     {1, 1, 1}},
+     {.fr = {.feminine = 1, .reformed = 1, .region = 1}}},
     {"fr_to_ordinal", YOKEPEAR_FR_ORDINAL_PHRASE, YOKEPEAR_FR_ORDINAL_TEXT, NINES_102, 0,
-     {0, 1, 1}},
+     {.fr = {.reformed = 1, .region = 1}}},
 };
 
 /* The longest phrase so far of a call: what was asked, for which figure. */
@@ -47,8 +49,7 @@ struct record {
 };
 
 static void show(const struct request *r, const char *text) {
-  printf("yokepear_%s, settings %u %u %u", r->call->name, r->settings[0], r->settings[1],
-         r->settings[2]);
+  show_call(r);
   if (r->code) printf(", code %.*s", (int)r->code_length, (const char *)r->code);
   printf(", %s\n", text);
 }
@@ -90,17 +91,16 @@ static void test_sum(const struct lengths *lengths, const struct request *reques
 }
 
 /* Whether the settings differ in no setting that has an effect. */
-static int are_alike(const struct size *size, const uint32_t a[SETTINGS],
-                     const uint32_t b[SETTINGS]) {
+static int are_alike(const struct size *size, const union settings *a, const union settings *b) {
   for (int i = 0; i < SETTINGS; i++)
-    if (a[i] != b[i] && size->effect[i]) return 0;
+    if (a->numbers[i] != b->numbers[i] && size->effect.numbers[i]) return 0;
   return 1;
 }
 
 /* Lengths are learnt in the first of the settings alike; in all it would take thrice the time. */
-static int is_first_alike(const struct size *size, const uint32_t settings[SETTINGS]) {
+static int is_first_alike(const struct size *size, const union settings *settings) {
   for (int i = 0; i < SETTINGS; i++)
-    if (settings[i] && !size->effect[i]) return 0;
+    if (settings->numbers[i] && !size->effect.numbers[i]) return 0;
   return 1;
 }
 
@@ -108,15 +108,15 @@ static int is_first_alike(const struct size *size, const uint32_t settings[SETTI
 static void test_sums(const struct size *size, const struct lengths *lengths,
                       const struct request *request, const struct figure *longest) {
   struct request r = *request;
-  memset(r.settings, 0, sizeof r.settings);
+  memset(&r.settings, 0, sizeof r.settings);
   do {
-    if (!are_alike(size, r.settings, request->settings)) continue;
+    if (!are_alike(size, &r.settings, &request->settings)) continue;
     test_sum(lengths, &r, longest);
     for (int i = 0; i < SAMPLES; i++) {
       struct figure f = random_figure(&lengths->limit, r.call->kind == MONEY);
       test_sum(lengths, &r, &f);
     }
-  } while (next_settings(r.call, r.settings));
+  } while (next_settings(r.call, &r.settings));
 }
 
 static void find_longest(const struct size *size, const struct request *r, const char *digits,
@@ -136,10 +136,10 @@ static void find_longest(const struct size *size, const struct request *r, const
 /* In every setting that has an effect, on both sides of zero. */
 static void find_in_settings(const struct size *size, struct request r, struct record *record) {
   do {
-    if (!is_first_alike(size, r.settings)) continue;
+    if (!is_first_alike(size, &r.settings)) continue;
     find_longest(size, &r, size->limit, 0, record);
     if (size->below_zero) find_longest(size, &r, size->below_zero, 1, record);
-  } while (next_settings(r.call, r.settings));
+  } while (next_settings(r.call, &r.settings));
 }
 
 static void set_code(struct request *r, const char *code) {
@@ -212,7 +212,7 @@ static void test_text_size(const struct size *size, struct call *call) {
       differ("the longest text", &r, text, r.input_length, size->text);
     expect_both_ways(&r);
     refuse_longer(size, r);
-  } while (next_settings(call, r.settings));
+  } while (next_settings(call, &r.settings));
 }
 
 void test_sizes(void) {

@@ -74,22 +74,21 @@ static const struct {
     {"-18446744073709551616.01", 3, 3, 4},       {"99999999999999999999", 0, 0, 5},
 };
 
-static void test_given(struct call *call, const uint32_t settings[3]) {
-  size_t three = sizeof(uint32_t[3]);
+static void test_given(struct call *call, const union settings *settings) {
   for (size_t i = 0; i < sizeof malformed / sizeof *malformed; i++) {
     struct request r = on_text(call, malformed[i]);
-    memcpy(r.settings, settings, three);
+    r.settings = *settings;
     expect_refusal(&r, 3);
   }
   for (size_t i = 0; i < sizeof texts / sizeof *texts; i++) {
     struct request r = on_text(call, texts[i].text);
-    memcpy(r.settings, settings, three);
+    r.settings = *settings;
     test_text(&r, refusal(call, texts[i].cardinal, texts[i].ordinal, texts[i].money));
   }
 }
 
 /* So many digits after an optional minus and a front; admitted up to the limit of digits. */
-static void test_long(struct call *call, const uint32_t settings[3], const char *front, char digit,
+static void test_long(struct call *call, const union settings *settings, const char *front, char digit,
                       size_t digits) {
   char text[LONGEST_TEXT];
   size_t given = strlen(front), whole = given - (front[0] == '-') + digits;
@@ -97,7 +96,7 @@ static void test_long(struct call *call, const uint32_t settings[3], const char 
   memset(text + given, digit, digits);
   text[given + digits] = 0;
   struct request r = on_text(call, text);
-  memcpy(r.settings, settings, sizeof r.settings);
+  r.settings = *settings;
   size_t limit = call->french ? 102 : 66;
   uint32_t number = whole > limit ? 5 : 0;
   if (call->kind == MONEY || call->kind == DIGIT_ORDINAL) number = 5;
@@ -106,7 +105,7 @@ static void test_long(struct call *call, const uint32_t settings[3], const char 
   test_text(&r, number);
 }
 
-static void test_limits(struct call *call, const uint32_t settings[3]) {
+static void test_limits(struct call *call, const union settings *settings) {
   size_t limit = call->french ? 102 : 66;
   test_long(call, settings, "", '9', limit);
   test_long(call, settings, "", '9', limit + 1);
@@ -118,14 +117,14 @@ static void test_limits(struct call *call, const uint32_t settings[3]) {
   test_long(call, settings, "0", '9', limit);
   if (call->kind != DIGIT_ORDINAL) return;
   struct request r = on_text(call, "340282366920938463463374607431768211455");
-  memcpy(r.settings, settings, sizeof r.settings);
+  r.settings = *settings;
   admitted(r);
   r = on_text(call, "340282366920938463463374607431768211456");
-  memcpy(r.settings, settings, sizeof r.settings);
+  r.settings = *settings;
   expect_refusal(&r, 5);
 }
 
-static void test_years(struct call *call, const uint32_t settings[3]) {
+static void test_years(struct call *call, const union settings *settings) {
   static const int64_t years[] = {0,    1,     -1,      3,         13,        -43,
                                   1991, 2000,  2024,    -2024,     1000000,   -1000000,
                                   9999, 21000, INT64_MAX, INT64_MIN, INT64_MIN + 1, INT32_MIN};
@@ -133,7 +132,7 @@ static void test_years(struct call *call, const uint32_t settings[3]) {
     struct request r = {0};
     r.call = call;
     r.year = years[i];
-    memcpy(r.settings, settings, sizeof r.settings);
+    r.settings = *settings;
     admitted(r);
   }
 }
@@ -141,17 +140,18 @@ static void test_years(struct call *call, const uint32_t settings[3]) {
 /* A setting out of its range is refused first, whatever else is wrong. */
 static void test_wrong_settings(struct call *call) {
   static const char *const inputs[] = {"1", "", "007", "-1", "1.50", "one"};
-  for (int at = 0; at < 3; at++) {
+  for (int at = 0; at < setting_count(call); at++) {
     uint32_t size = setting_size(call, at);
     uint32_t wrong[] = {size, size + 1, 255, 256, 65536, 0x80000000u, UINT32_MAX};
     for (size_t i = 0; i < sizeof wrong / sizeof *wrong; i++)
       for (size_t k = 0; k < sizeof inputs / sizeof *inputs; k++) {
         struct request r = on_text(call, inputs[k]);
-        r.settings[at] = wrong[i];
+        r.settings.numbers[at] = wrong[i];
         expect_refusal(&r, 1);
         r.code_length = 2;
         if (call->kind == MONEY) expect_refusal(&r, 1);
-        for (int other = 0; other < 3; other++) r.settings[other] = wrong[i];
+        for (int other = 0; other < setting_count(call); other++)
+          r.settings.numbers[other] = wrong[i];
         if (wrong[i] >= 6) expect_refusal(&r, 1);
       }
   }
@@ -161,15 +161,15 @@ void test_texts(void) {
   for (size_t i = 0; i < call_count; i++) {
     struct call *call = &calls[i];
     test_wrong_settings(call);
-    uint32_t settings[3] = {0, 0, 0};
+    union settings settings = {{0}};
     do {
       if (call->reading) break;
       if (call->kind == YEAR) {
-        test_years(call, settings);
+        test_years(call, &settings);
       } else {
-        test_given(call, settings);
-        test_limits(call, settings);
+        test_given(call, &settings);
+        test_limits(call, &settings);
       }
-    } while (next_settings(call, settings));
+    } while (next_settings(call, &settings));
   }
 }

@@ -2,6 +2,9 @@
 #ifndef TESTS_H
 #define TESTS_H
 
+/* Settings by name, sentences for refusals, the version. */
+void test_header(void);
+
 /* Every line of the table of expected answers, spelled and read back. */
 void test_table(const char *path);
 

@@ -1,8 +1,22 @@
 /*
  * Yokepear: figures spoken as Ukrainian and French phrases, and phrases read back as figures.
+ * SPDX-License-Identifier: MIT OR Apache-2.0
  *
- * Link with libyokepear.a (x86-64 today). No heap, no initialisation, no state: calls may run at
- * the same time in any threads. Of a C library it needs at most memcpy and memset.
+ * Link with libyokepear.a (x86-64 Linux today). No heap, no initialisation, no state: calls may run
+ * at the same time in any threads. Of a C library it needs at most memcpy and memset.
+ *
+ *   Example (C99; in C++ settings are `= {}`, and their fields are set one by one):
+ *     yokepear_uk feminine = {.gender = YOKEPEAR_FEMININE};
+ *     char out[YOKEPEAR_UK_CARDINAL_PHRASE];
+ *     yokepear_answer a = yokepear_uk_to_cardinal_in(feminine, "42", 2, out, sizeof out);
+ *     if (a.refusal) puts(yokepear_refusal_text(a.refusal));
+ *     else fwrite(out, 1, a.length, stdout);
+ *
+ * Two forms of each call
+ *   yokepear_NAME takes its settings as numbers, at the front: that is the library's own call.
+ *   yokepear_NAME_in takes them as a struct, by name, and hands them on. Use it: settings that are
+ *   named cannot change places, and one that a later version adds is 0 in the sources of before,
+ *   which means what was said before.
  *
  * Texts and phrases
  *   All are byte strings with a length, UTF-8, without a closing zero byte.
@@ -19,12 +33,6 @@
  *   A buffer of the YOKEPEAR_..._PHRASE or YOKEPEAR_..._TEXT bytes given with a call is always long
  *   enough, and the longest answer fills it. For an exact size, ask with out_length 0: refusal 7
  *   reports the length needed.
- *
- *   Example:
- *     uint8_t out[YOKEPEAR_UK_CARDINAL_PHRASE];
- *     yokepear_answer a = yokepear_uk_to_cardinal(YOKEPEAR_FEMININE, YOKEPEAR_SINGULAR,
- *         YOKEPEAR_NOMINATIVE, (const uint8_t *)"42", 2, out, sizeof out);
- *     if (a.number == YOKEPEAR_DONE) fwrite(out, 1, a.length, stdout);
  */
 #ifndef YOKEPEAR_H
 #define YOKEPEAR_H
@@ -36,12 +44,29 @@
 extern "C" {
 #endif
 
+/* ---- Version -------------------------------------------------------------------------------- */
+
+/* While the first number is 0, a step of the second may change a call on numbers. */
+#define YOKEPEAR_VERSION_MAJOR 0
+#define YOKEPEAR_VERSION_MINOR 2
+#define YOKEPEAR_VERSION_PATCH 0
+
+#define YOKEPEAR_TEXT_OF_(number) #number
+#define YOKEPEAR_DOTTED_(major, minor, patch) \
+  YOKEPEAR_TEXT_OF_(major) "." YOKEPEAR_TEXT_OF_(minor) "." YOKEPEAR_TEXT_OF_(patch)
+/* The three as a text: "0.2.0" and the like. */
+#define YOKEPEAR_VERSION \
+  YOKEPEAR_DOTTED_(YOKEPEAR_VERSION_MAJOR, YOKEPEAR_VERSION_MINOR, YOKEPEAR_VERSION_PATCH)
+
+/* ---- Answers and refusals ------------------------------------------------------------------- */
+
 /*
- * What a call answers. `number` is 0 and `length` the answer's length in bytes; or `number` is that
- * of a refusal and `length` is 0, except that YOKEPEAR_SHORT_BUFFER comes with the length needed.
+ * What a call answers. `refusal` is 0 and `length` the answer's length in bytes; or `refusal` is
+ * the number of one and `length` is 0, except that YOKEPEAR_SHORT_BUFFER comes with the length
+ * needed.
  */
 typedef struct {
-  uint32_t number;
+  uint32_t refusal;
   size_t length;
 } yokepear_answer;
 
@@ -60,18 +85,83 @@ enum {
   YOKEPEAR_SHORT_BUFFER = 7    /* out_length is below the answer's length, which is reported */
 };
 
-/* ---- Ukrainian settings: gender, number, grammatical_case ---------------------------------- */
+/* A short sentence for the number of a refusal, for logs. */
+static inline const char *yokepear_refusal_text(uint32_t refusal) {
+  switch (refusal) {
+    case YOKEPEAR_DONE: return "nothing is refused";
+    case YOKEPEAR_BAD_SETTING: return "a setting number is outside its range";
+    case YOKEPEAR_BAD_CODE: return "the currency code is not a known one";
+    case YOKEPEAR_BAD_TEXT: return "the number text is malformed";
+    case YOKEPEAR_NEGATIVE: return "the number is negative";
+    case YOKEPEAR_TOO_LARGE: return "the number is above the limit";
+    case YOKEPEAR_NOT_A_SENTENCE: return "the phrase is not a sentence in these settings";
+    case YOKEPEAR_SHORT_BUFFER: return "the buffer is shorter than the answer";
+    default: return "no refusal has this number";
+  }
+}
 
-enum { YOKEPEAR_MASCULINE = 0, YOKEPEAR_FEMININE = 1, YOKEPEAR_NEUTER = 2 };
-enum { YOKEPEAR_SINGULAR = 0, YOKEPEAR_PLURAL = 1 };
-enum {
+/* ---- Settings ------------------------------------------------------------------------------- */
+
+/*
+ * Each setting has a type of its own, so that a compiler tells where one stands for another: by an
+ * error in C++, in C by a warning (-Wextra has it). The types hold every number of 32 bits: one
+ * that is outside the setting's range is for the call to refuse.
+ */
+#if defined __cplusplus && __cplusplus >= 201103L
+#define YOKEPEAR_32_BITS_ : uint32_t
+#else
+#define YOKEPEAR_32_BITS_
+#endif
+
+typedef enum yokepear_gender YOKEPEAR_32_BITS_ {
+  YOKEPEAR_MASCULINE = 0,
+  YOKEPEAR_FEMININE = 1,
+  YOKEPEAR_NEUTER = 2
+} yokepear_gender;
+
+typedef enum yokepear_grammatical_number YOKEPEAR_32_BITS_ {
+  YOKEPEAR_SINGULAR = 0,
+  YOKEPEAR_PLURAL = 1
+} yokepear_grammatical_number;
+
+typedef enum yokepear_grammatical_case YOKEPEAR_32_BITS_ {
   YOKEPEAR_NOMINATIVE = 0,
   YOKEPEAR_GENITIVE = 1,
   YOKEPEAR_DATIVE = 2,
   YOKEPEAR_ACCUSATIVE = 3,
   YOKEPEAR_INSTRUMENTAL = 4,
   YOKEPEAR_LOCATIVE = 5
-};
+} yokepear_grammatical_case;
+
+/* The names of 70, 80 and 90. */
+typedef enum yokepear_region YOKEPEAR_32_BITS_ {
+  YOKEPEAR_FR = 0,
+  YOKEPEAR_BE = 1,
+  YOKEPEAR_CH = 2
+} yokepear_region;
+
+#undef YOKEPEAR_32_BITS_
+
+/* With -fshort-enums a number such as 256 would become 0 unseen: that is not compiled. */
+typedef char yokepear_enums_have_32_bits_[sizeof(yokepear_gender) == sizeof(uint32_t) ? 1 : -1];
+
+/* Ukrainian settings by name. All zero: masculine, singular, nominative. */
+typedef struct {
+  yokepear_gender gender;
+  yokepear_grammatical_number number;
+  yokepear_grammatical_case grammatical_case;
+} yokepear_uk;
+
+/* French settings by name. All zero: masculine, words joined by spaces, the names of France. */
+typedef struct {
+  uint32_t feminine; /* 0 or 1 */
+  uint32_t reformed; /* 0 joins words by spaces, 1 by hyphens (the spelling of 1990) */
+  yokepear_region region;
+} yokepear_fr;
+
+/* The settings as a call takes them. */
+#define YOKEPEAR_UK_(settings) (settings).gender, (settings).number, (settings).grammatical_case
+#define YOKEPEAR_FR_(settings) (settings).feminine, (settings).reformed, (settings).region
 
 /* ---- Ukrainian cardinals ------------------------------------------------------------------- */
 
@@ -83,8 +173,14 @@ enum {
  * begins with `мінус`. `number` has no effect on cardinals. Refuses by 1, 3, 5, 7.
  */
 yokepear_answer yokepear_uk_to_cardinal(uint32_t gender, uint32_t number, uint32_t grammatical_case,
-                                        const uint8_t *text, size_t text_length,
-                                        uint8_t *out, size_t out_length);
+                                        const void *text, size_t text_length,
+                                        void *out, size_t out_length);
+
+static inline yokepear_answer yokepear_uk_to_cardinal_in(yokepear_uk settings,
+                                                         const void *text, size_t text_length,
+                                                         void *out, size_t out_length) {
+  return yokepear_uk_to_cardinal(YOKEPEAR_UK_(settings), text, text_length, out, out_length);
+}
 
 /*
  * Reads a phrase and writes its number text: exactly the phrases that yokepear_uk_to_cardinal
@@ -92,8 +188,14 @@ yokepear_answer yokepear_uk_to_cardinal(uint32_t gender, uint32_t number, uint32
  */
 yokepear_answer yokepear_uk_from_cardinal(uint32_t gender, uint32_t number,
                                           uint32_t grammatical_case,
-                                          const uint8_t *phrase, size_t phrase_length,
-                                          uint8_t *out, size_t out_length);
+                                          const void *phrase, size_t phrase_length,
+                                          void *out, size_t out_length);
+
+static inline yokepear_answer yokepear_uk_from_cardinal_in(yokepear_uk settings,
+                                                           const void *phrase, size_t phrase_length,
+                                                           void *out, size_t out_length) {
+  return yokepear_uk_from_cardinal(YOKEPEAR_UK_(settings), phrase, phrase_length, out, out_length);
+}
 
 /* ---- Ukrainian ordinals, digit ordinals and years ------------------------------------------ */
 
@@ -107,8 +209,14 @@ yokepear_answer yokepear_uk_from_cardinal(uint32_t gender, uint32_t number,
  * Refuses by 1, 3, 4, 5, 7.
  */
 yokepear_answer yokepear_uk_to_ordinal(uint32_t gender, uint32_t number, uint32_t grammatical_case,
-                                       const uint8_t *text, size_t text_length,
-                                       uint8_t *out, size_t out_length);
+                                       const void *text, size_t text_length,
+                                       void *out, size_t out_length);
+
+static inline yokepear_answer yokepear_uk_to_ordinal_in(yokepear_uk settings,
+                                                        const void *text, size_t text_length,
+                                                        void *out, size_t out_length) {
+  return yokepear_uk_to_ordinal(YOKEPEAR_UK_(settings), text, text_length, out, out_length);
+}
 
 /*
  * Writes a digit ordinal: 42, masculine, singular, genitive is `42-го`. The number is not negative
@@ -117,15 +225,26 @@ yokepear_answer yokepear_uk_to_ordinal(uint32_t gender, uint32_t number, uint32_
  */
 yokepear_answer yokepear_uk_to_ordinal_num(uint32_t gender, uint32_t number,
                                            uint32_t grammatical_case,
-                                           const uint8_t *text, size_t text_length,
-                                           uint8_t *out, size_t out_length);
+                                           const void *text, size_t text_length,
+                                           void *out, size_t out_length);
+
+static inline yokepear_answer yokepear_uk_to_ordinal_num_in(yokepear_uk settings,
+                                                            const void *text, size_t text_length,
+                                                            void *out, size_t out_length) {
+  return yokepear_uk_to_ordinal_num(YOKEPEAR_UK_(settings), text, text_length, out, out_length);
+}
 
 /*
  * Speaks a year, any int64_t: -43, singular, genitive is `сорок третього року до н.е.`; so end
  * year 0 and the years below. `gender` has no effect on years. Refuses by 1 and 7.
  */
 yokepear_answer yokepear_uk_to_year(uint32_t gender, uint32_t number, uint32_t grammatical_case,
-                                    int64_t year, uint8_t *out, size_t out_length);
+                                    int64_t year, void *out, size_t out_length);
+
+static inline yokepear_answer yokepear_uk_to_year_in(yokepear_uk settings, int64_t year,
+                                                     void *out, size_t out_length) {
+  return yokepear_uk_to_year(YOKEPEAR_UK_(settings), year, out, out_length);
+}
 
 /* ---- Ukrainian money ----------------------------------------------------------------------- */
 
@@ -142,9 +261,17 @@ yokepear_answer yokepear_uk_to_year(uint32_t gender, uint32_t number, uint32_t g
  * in capitals. Refuses by 1, 2, 3, 4, 5, 7.
  */
 yokepear_answer yokepear_uk_to_currency(uint32_t gender, uint32_t number, uint32_t grammatical_case,
-                                        const uint8_t *code, size_t code_length,
-                                        const uint8_t *text, size_t text_length,
-                                        uint8_t *out, size_t out_length);
+                                        const void *code, size_t code_length,
+                                        const void *text, size_t text_length,
+                                        void *out, size_t out_length);
+
+static inline yokepear_answer yokepear_uk_to_currency_in(yokepear_uk settings,
+                                                         const void *code, size_t code_length,
+                                                         const void *text, size_t text_length,
+                                                         void *out, size_t out_length) {
+  return yokepear_uk_to_currency(YOKEPEAR_UK_(settings), code, code_length, text, text_length, out,
+                                 out_length);
+}
 
 /*
  * Reads a phrase and writes its money text: exactly the phrases that yokepear_uk_to_currency
@@ -153,17 +280,17 @@ yokepear_answer yokepear_uk_to_currency(uint32_t gender, uint32_t number, uint32
  */
 yokepear_answer yokepear_uk_from_currency(uint32_t gender, uint32_t number,
                                           uint32_t grammatical_case,
-                                          const uint8_t *code, size_t code_length,
-                                          const uint8_t *phrase, size_t phrase_length,
-                                          uint8_t *out, size_t out_length);
+                                          const void *code, size_t code_length,
+                                          const void *phrase, size_t phrase_length,
+                                          void *out, size_t out_length);
 
-/* ---- French settings: feminine, reformed, region ------------------------------------------- */
-
-/*
- * feminine: 0 or 1. reformed: 0 joins words by spaces, 1 by hyphens (the spelling of 1990).
- * region: the names of 70, 80 and 90.
- */
-enum { YOKEPEAR_FR = 0, YOKEPEAR_BE = 1, YOKEPEAR_CH = 2 };
+static inline yokepear_answer yokepear_uk_from_currency_in(yokepear_uk settings,
+                                                           const void *code, size_t code_length,
+                                                           const void *phrase, size_t phrase_length,
+                                                           void *out, size_t out_length) {
+  return yokepear_uk_from_currency(YOKEPEAR_UK_(settings), code, code_length, phrase,
+                                   phrase_length, out, out_length);
+}
 
 /* ---- French cardinals ---------------------------------------------------------------------- */
 
@@ -176,16 +303,28 @@ enum { YOKEPEAR_FR = 0, YOKEPEAR_BE = 1, YOKEPEAR_CH = 2 };
  * Refuses by 1, 3, 5, 7.
  */
 yokepear_answer yokepear_fr_to_cardinal(uint32_t feminine, uint32_t reformed, uint32_t region,
-                                        const uint8_t *text, size_t text_length,
-                                        uint8_t *out, size_t out_length);
+                                        const void *text, size_t text_length,
+                                        void *out, size_t out_length);
+
+static inline yokepear_answer yokepear_fr_to_cardinal_in(yokepear_fr settings,
+                                                         const void *text, size_t text_length,
+                                                         void *out, size_t out_length) {
+  return yokepear_fr_to_cardinal(YOKEPEAR_FR_(settings), text, text_length, out, out_length);
+}
 
 /*
  * Reads a phrase and writes its number text: exactly the phrases that yokepear_fr_to_cardinal
  * says in the same settings are read, every other one is refused. Refuses by 1, 6, 7.
  */
 yokepear_answer yokepear_fr_from_cardinal(uint32_t feminine, uint32_t reformed, uint32_t region,
-                                          const uint8_t *phrase, size_t phrase_length,
-                                          uint8_t *out, size_t out_length);
+                                          const void *phrase, size_t phrase_length,
+                                          void *out, size_t out_length);
+
+static inline yokepear_answer yokepear_fr_from_cardinal_in(yokepear_fr settings,
+                                                           const void *phrase, size_t phrase_length,
+                                                           void *out, size_t out_length) {
+  return yokepear_fr_from_cardinal(YOKEPEAR_FR_(settings), phrase, phrase_length, out, out_length);
+}
 
 /* ---- French ordinals ----------------------------------------------------------------------- */
 
@@ -197,18 +336,33 @@ yokepear_answer yokepear_fr_from_cardinal(uint32_t feminine, uint32_t reformed, 
  * 200 is `deux centsième`. `feminine` has no effect on ordinals. Refuses by 1, 3, 4, 5, 7.
  */
 yokepear_answer yokepear_fr_to_ordinal(uint32_t feminine, uint32_t reformed, uint32_t region,
-                                       const uint8_t *text, size_t text_length,
-                                       uint8_t *out, size_t out_length);
+                                       const void *text, size_t text_length,
+                                       void *out, size_t out_length);
+
+static inline yokepear_answer yokepear_fr_to_ordinal_in(yokepear_fr settings,
+                                                        const void *text, size_t text_length,
+                                                        void *out, size_t out_length) {
+  return yokepear_fr_to_ordinal(YOKEPEAR_FR_(settings), text, text_length, out, out_length);
+}
 
 /*
  * Reads a phrase and writes its number text: exactly the phrases that yokepear_fr_to_ordinal
  * says in the same settings are read, every other one is refused. Refuses by 1, 6, 7.
  */
 yokepear_answer yokepear_fr_from_ordinal(uint32_t feminine, uint32_t reformed, uint32_t region,
-                                         const uint8_t *phrase, size_t phrase_length,
-                                         uint8_t *out, size_t out_length);
+                                         const void *phrase, size_t phrase_length,
+                                         void *out, size_t out_length);
+
+static inline yokepear_answer yokepear_fr_from_ordinal_in(yokepear_fr settings,
+                                                          const void *phrase, size_t phrase_length,
+                                                          void *out, size_t out_length) {
+  return yokepear_fr_from_ordinal(YOKEPEAR_FR_(settings), phrase, phrase_length, out, out_length);
+}
 
 /* ---- end of the calls ---------------------------------------------------------------------- */
+
+#undef YOKEPEAR_UK_
+#undef YOKEPEAR_FR_
 
 #ifdef __cplusplus
 }

@@ -1,0 +1,58 @@
+#!/usr/bin/env bash
+# Proves, and says how far it has come: a line for each crate that is proved, and everything that is not.
+#   prove.sh all             every crate, from nothing
+#   prove.sh program NAME    the program and the crates below it: target/bin/NAME
+#   prove.sh library NAME    the same for C: target/staticlib/libNAME.a
+# A crate that has not changed since it was proved is not proved again, but by `all`.
+set -u
+cd "$(dirname "${BASH_SOURCE[0]}")/.." || exit 2
+tools/kit.sh
+[ $? -eq 2 ] && exit 2
+export RT_JOBS=${RT_JOBS:-$(tools/jobs.sh)}
+
+# below NAME: the crates that its line in crates.txt names, of this repository.
+below() {
+  awk -F: -v name="$1" '{own[$1] = 1} $1 == name {needs = $2}
+    END {n = split(needs, need, " "); for (i = 1; i <= n; i++) if (need[i] in own) print need[i]}' crates.txt
+}
+
+# count [NAME]: how many crates the crate NAME reaches, itself among them; without a name, how many there are.
+count() {
+  awk -F: -v name="${1:-}" '
+    function reach(crate, need, n, i) {
+      if (crate in reached || !(crate in needs)) return
+      reached[crate] = 1
+      n = split(needs[crate], need, " ")
+      for (i = 1; i <= n; i++) reach(need[i])
+    }
+    {needs[$1] = $2}
+    END {if (name) reach(name); else for (crate in needs) reach(crate); print length(reached)}' crates.txt
+}
+
+# progress COUNT: of what rt says, the crates that are proved as lines of progress; that every function of theirs is proved is not shown.
+progress() {
+  awk -v count="$1" '
+    /^rt: [a-z0-9_]+ proved \(/ {
+      if (!($2 in proved)) {proved[$2] = 1; done++}
+      if (!/\(unchanged/) print "yokepear: crate " done " of " count ": " $2 " proved " $4 " " $5
+      fflush()
+      next
+    }
+    /^(fn|struct|enum) .*: proved$/ || /^(logic|library|note:|imported)[ =]/ {next}
+    {print; fflush()}'
+}
+
+prove() {
+  case $1 in
+    all) rt prove ;;
+    program) rt check "$2" ;;
+    # rt staticlib proves one crate after another: those below are proved before it, several at a time.
+    library) rt check $(below "$2") && rt staticlib "$2" ;;
+    *) echo "usage: prove.sh all | program NAME | library NAME" >&2; return 2 ;;
+  esac
+}
+
+crates=$(count "${2:-}")
+echo "yokepear: $crates crates to prove, $RT_JOBS at a time; from nothing this takes minutes"
+prove "$@" 2>&1 | progress "$crates"
+exit "${PIPESTATUS[0]}"
