@@ -1,7 +1,7 @@
 #!/bin/bash
-# The C host tests: the header, every call with guarded buffers, the header's sizes, the example,
-# the archive's needs and its stack. Ends non-zero at a difference. YOKEPEAR_LIB is the static
-# library's folder.
+# The C host tests: the header, the examples, an installed copy, every call with guarded buffers, the
+# header's sizes, the archive's needs, its size and its stack. Ends non-zero at a difference.
+# YOKEPEAR_LIB is the static library's folder.
 set -euo pipefail
 . "$(dirname "${BASH_SOURCE[0]}")/common.sh"
 "$host/header.sh"
@@ -11,5 +11,8 @@ sources=(test.c test_header.c test_table.c test_texts.c test_codes.c test_phrase
 "$build/test" "$host/expected.txt"
 "${compile[@]}" "$host/price_list.c" "$archive" -o "$build/price_list"
 "$build/price_list"
+"$host/examples.sh"
+"$host/install.sh"
 "$host/symbols.sh"
-"$host/stack.sh"
+"$host/footprint.sh" | tee "$build/footprint.md"
+python3 "$repo/tools/footprint_table.py" --check < "$build/footprint.md"

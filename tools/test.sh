@@ -1,5 +1,5 @@
 #!/usr/bin/env bash
-# The test command: the generated files and tables, the gate over all crates, then the host's tests and the comparison; ends in the verdict 'N passed, M failed'.
+# The test command: the toolchain's identity, the generated files and tables, the gate over all crates, then the host's tests and the comparison; ends in the verdict 'N passed, M failed'.
 # Where a step fails, what each of them said stays in target-log. It is not in target, which `rt ci` removes.
 set -u
 cd "$(dirname "${BASH_SOURCE[0]}")/.." || exit 1
@@ -33,13 +33,13 @@ gate() {
   failed gate $((not_passed > 0 ? not_passed : 1))
 }
 
+step kit tools/kit.sh || failed kit
 step words python3 tools/gen_words.py --check || failed words
 step meanings python3 tools/gen_meanings.py --check || failed meanings
 step money python3 tools/gen_money.py --check || failed money
 step reading_order python3 tools/reading_table.py --check || failed reading_order
 step edit_table python3 tools/edit_table.py --check || failed edit_table
-# rt waits for all of a batch before it starts the next: with three to a processor a long check does not leave one idle (each takes up to 1.4 GB).
-export RT_JOBS=${RT_JOBS:-$((3 * $(nproc)))}
+export RT_JOBS=${RT_JOBS:-$(tools/jobs.sh)}
 gate
 step library rt staticlib yokepear || failed library
 step host host/test.sh || failed host
