@@ -15,8 +15,8 @@
  * Two forms of each call
  *   yokepear_NAME takes its settings as numbers, at the front: that is the library's own call.
  *   yokepear_NAME_in takes them as a struct, by name, and hands them on. Use it: settings that are
- *   named cannot change places, and one that a later version adds is 0 in the sources of before,
- *   which means what was said before.
+ *   named cannot change places; and one that a later version adds is then 0, which means what was
+ *   said before, as long as a struct begins as zeros: `= {0}` or named fields in C, `= {}` in C++.
  *
  * Texts and phrases
  *   All are byte strings with a length, UTF-8, without a closing zero byte.
@@ -54,7 +54,7 @@ extern "C" {
 #define YOKEPEAR_TEXT_OF_(number) #number
 #define YOKEPEAR_DOTTED_(major, minor, patch) \
   YOKEPEAR_TEXT_OF_(major) "." YOKEPEAR_TEXT_OF_(minor) "." YOKEPEAR_TEXT_OF_(patch)
-/* The three as a text: "0.2.0" and the like. */
+/* The three as a text, with points between. */
 #define YOKEPEAR_VERSION \
   YOKEPEAR_DOTTED_(YOKEPEAR_VERSION_MAJOR, YOKEPEAR_VERSION_MINOR, YOKEPEAR_VERSION_PATCH)
 
