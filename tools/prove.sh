@@ -21,25 +21,29 @@ count() {
   awk -F: -v name="${1:-}" '
     function reach(crate, need, n, i) {
       if (crate in reached || !(crate in needs)) return
-      reached[crate] = 1
+      reached[crate] = ++crates
       n = split(needs[crate], need, " ")
       for (i = 1; i <= n; i++) reach(need[i])
     }
     {needs[$1] = $2}
-    END {if (name) reach(name); else for (crate in needs) reach(crate); print length(reached)}' crates.txt
+    END {if (name) reach(name); else for (crate in needs) reach(crate); print crates}' crates.txt
 }
 
-# progress COUNT: of what rt says, the crates that are proved as lines of progress; that every function of theirs is proved is not shown.
+# progress COUNT: shows of what rt says a line for each crate that is proved, and of one that is not, everything. rt says all of a crate, then
+# whether it is proved.
 progress() {
   awk -v count="$1" '
-    /^rt: [a-z0-9_]+ proved \(/ {
-      if (!($2 in proved)) {proved[$2] = 1; done++}
-      if (!/\(unchanged/) print "yokepear: crate " done " of " count ": " $2 " proved " $4 " " $5
-      fflush()
-      next
+    function show_crate(name, time) {
+      said = ""
+      if (!(name in proved)) {proved[name] = 1; done++}
+      if (time) print "yokepear: crate " done " of " count ": " name " proved" time
     }
-    /^(fn|struct|enum) .*: proved$/ || /^(logic|library|note:|imported)[ =]/ {next}
-    {print; fflush()}'
+    /^rt: [a-z0-9_]+ proved \(unchanged/ {show_crate($2); next}
+    /^rt: [a-z0-9_]+ proved \(/ {show_crate($2, " " $4 " " $5); fflush(); next}
+    /^rt: target\/staticlib\// {said = ""; print; next}
+    /^rt: / {printf "%s", said; said = ""; print; fflush(); next}
+    {said = said $0 "\n"}
+    END {printf "%s", said}'
 }
 
 prove() {
