@@ -41,7 +41,7 @@ def shifts_of(keys, slots):
     for part in sorted(range(PARTS), key=lambda part: (-len(parts[part]), part)):
         places = [{(k + shift) % slots for k in parts[part]} for shift in range(slots)]
         fit = [shift for shift in range(slots) if len(places[shift]) == len(parts[part]) and not places[shift] & taken]
-        assert fit, 'the keys of a part have no places of their own: another END may do'
+        assert fit, 'the keys of a part have no places of their own: another number of PARTS may do'
         shifts[part] = fit[0]
         taken |= places[fit[0]]
     return shifts

@@ -41,6 +41,7 @@ progress() {
     /^rt: [a-z0-9_]+ proved \(unchanged/ {show_crate($2); next}
     /^rt: [a-z0-9_]+ proved \(/ {show_crate($2, " " $4 " " $5); fflush(); next}
     /^rt: target\/staticlib\// {said = ""; print; next}
+    /^(fn|struct|enum) .*: proved$/ {next}
     /^rt: / {printf "%s", said; said = ""; print; fflush(); next}
     {said = said $0 "\n"}
     END {printf "%s", said}'
