@@ -63,42 +63,45 @@ static void differ(const char *what, yokepear_answer got, uint32_t refusal, size
   exit(1);
 }
 
-/*
- * Asks with a buffer of `room` bytes at `at` of the block; every byte of the block is compared.
- * With one fill the settings are given by name, with the other as numbers: so each of a call's two
- * forms is held to the same answer, in every test.
- */
+/* The two forms of a call: settings by name, and as numbers. Both are held to every expectation. */
+static yokepear_answer (*const forms[2])(const struct request *, uint8_t *, size_t) = {
+    ask, ask_by_number};
+
+/* Asks with a buffer of `room` bytes at `at` of the block; every byte of the block is compared. */
 static void expect_at(const struct request *r, uint32_t refusal, const uint8_t *bytes,
-                      size_t length, size_t room, size_t at, int fill) {
+                      size_t length, size_t room, size_t at, int fill, int form) {
   memcpy(want, fills[fill], out_block.size);
   memcpy(out_block.bytes, want, out_block.size);
   uint32_t want_refusal = refusal ? refusal : length > room ? 7 : 0;
   size_t want_length = refusal ? 0 : length;
   if (!want_refusal && length) memcpy(want + at, bytes, length);
-  uint8_t *out = out_block.bytes + at;
-  yokepear_answer got = fill ? ask_by_number(r, out, room) : ask(r, out, room);
+  yokepear_answer got = forms[form](r, out_block.bytes + at, room);
   if (got.refusal != want_refusal || got.length != want_length)
     differ("refusal or length", got, want_refusal, want_length, room);
   if (memcmp(out_block.bytes, want, out_block.size))
     differ("bytes of the buffer or around it", got, want_refusal, want_length, room);
 }
 
-/* A buffer of this length: at the block's end, at its front and amid it, with both fills. */
+/* A buffer of this length: at the block's end, at its front and amid it; both fills, both forms. */
 static void expect_room(const struct request *r, uint32_t refusal, const uint8_t *bytes,
                         size_t length, size_t room) {
   size_t last = out_block.size - room;
   size_t places[3] = {last, 0, last / 2};
   for (int i = 0; i < 3; i++)
     for (int fill = 0; fill < 2; fill++)
-      expect_at(r, refusal, bytes, length, room, places[i], fill);
+      for (int form = 0; form < 2; form++)
+        expect_at(r, refusal, bytes, length, room, places[i], fill, form);
 }
 
 /* No buffer at all. */
 static void expect_null(const struct request *r, uint32_t refusal, size_t length) {
   uint32_t want_refusal = refusal ? refusal : length ? 7 : 0;
-  yokepear_answer got = ask(r, 0, 0);
-  if (got.refusal != want_refusal || got.length != (refusal ? 0 : length))
-    differ("a null buffer", got, want_refusal, refusal ? 0 : length, 0);
+  size_t want_length = refusal ? 0 : length;
+  for (int form = 0; form < 2; form++) {
+    yokepear_answer got = forms[form](r, 0, 0);
+    if (got.refusal != want_refusal || got.length != want_length)
+      differ("a null buffer", got, want_refusal, want_length, 0);
+  }
 }
 
 /* The same request with its inputs in read-only blocks, at their ends or fronts. */

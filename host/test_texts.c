@@ -88,8 +88,8 @@ static void test_given(struct call *call, const union settings *settings) {
 }
 
 /* So many digits after an optional minus and a front; admitted up to the limit of digits. */
-static void test_long(struct call *call, const union settings *settings, const char *front, char digit,
-                      size_t digits) {
+static void test_long(struct call *call, const union settings *settings, const char *front,
+                      char digit, size_t digits) {
   char text[LONGEST_TEXT];
   size_t given = strlen(front), whole = given - (front[0] == '-') + digits;
   memcpy(text, front, given);
