@@ -1,7 +1,7 @@
 # Yokepear. Each target works from a fresh checkout; the toolchain's command `rt` must be on the PATH.
 .PHONY: test prove phrases lib install host compare bench clean
 
-sources := crates.txt $(shell find crates -name '*.rt' -o -name '*.antt')
+sources := crates.txt kit.txt $(shell find crates -name '*.rt' -o -name '*.antt')
 
 # The generated files, the gate (every proof and every must-fail edit), the host's tests and the comparison. The last line is the verdict.
 test:
@@ -23,6 +23,7 @@ target/bin/phrases: $(sources)
 lib: target/staticlib/libyokepear.a
 	@mkdir -p target/yokepear
 	@cp target/staticlib/libyokepear.a include/yokepear.h target/yokepear/
+	@echo "target/yokepear has libyokepear.a and yokepear.h"
 
 target/staticlib/libyokepear.a: $(sources)
 	@tools/prove.sh library yokepear

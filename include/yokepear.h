@@ -22,7 +22,9 @@
  *   All are byte strings with a length, UTF-8, without a closing zero byte.
  *   A number text is ASCII: an optional `-`, then `0` or digits without a leading zero; there is
  *   no `-` before zero. Each call below says how large the number may be.
- *   A phrase is in small letters with single joiners; the Ukrainian apostrophe is U+02BC (CA BC).
+ *   A phrase is in small letters, its words joined by single spaces or hyphens; the Ukrainian
+ *   apostrophe is U+02BC (CA BC). Phrases are those of the library that was ported, num2words, also
+ *   where usage has others: docs/DIFFERENCES.md lists them.
  *
  * Buffers
  *   A call takes any bytes, any lengths and any setting numbers. It reads no byte past an input's
@@ -103,9 +105,10 @@ static inline const char *yokepear_refusal_text(uint32_t refusal) {
 /* ---- Settings ------------------------------------------------------------------------------- */
 
 /*
- * Each setting has a type of its own, so that a compiler tells where one stands for another: by an
- * error in C++, in C by a warning (-Wextra has it). The types hold every number of 32 bits: one
- * that is outside the setting's range is for the call to refuse.
+ * A setting whose values have names has a type of its own, so that a compiler tells where one stands
+ * for another: by an error in C++, in C by a warning (gcc: -Wextra). The types hold every number of
+ * 32 bits; one that is outside the setting's range is for the call to refuse. A number from a file
+ * or a menu is cast in C++: see first that it has no more than 32 bits.
  */
 #if defined __cplusplus && __cplusplus >= 201103L
 #define YOKEPEAR_32_BITS_ : uint32_t
@@ -235,8 +238,8 @@ static inline yokepear_answer yokepear_uk_to_ordinal_num_in(yokepear_uk settings
 }
 
 /*
- * Speaks a year, any int64_t: -43, singular, genitive is `сорок третього року до н.е.`; so end
- * year 0 and the years below. `gender` has no effect on years. Refuses by 1 and 7.
+ * Speaks a year, any int64_t: -43, singular, genitive is `сорок третього року до н.е.`; year 0 and
+ * all years below it end in `до н.е.`. `gender` has no effect on years. Refuses by 1 and 7.
  */
 yokepear_answer yokepear_uk_to_year(uint32_t gender, uint32_t number, uint32_t grammatical_case,
                                     int64_t year, void *out, size_t out_length);
@@ -258,7 +261,8 @@ static inline yokepear_answer yokepear_uk_to_year_in(yokepear_uk settings, int64
  * The gender is the currency's: `gender` and `number` have no effect. The code is one of
  *   AED ARS AUD BRL CAD CHF CLP CNY COP CRC DINAR DOLLAR DZD EUR GBP HKD IDR ILS INR JPY KRW KWD
  *   KZT MXN MYR NOK NZD PEN PESO PHP PLN QAR RIYAL RUB SAR SGD THB TRY TWD UAH USD UYU VND ZAR
- * in capitals. Refuses by 1, 2, 3, 4, 5, 7.
+ * in capitals; DINAR, DOLLAR, PESO and RIYAL are for any currency of that name.
+ * Refuses by 1, 2, 3, 4, 5, 7.
  */
 yokepear_answer yokepear_uk_to_currency(uint32_t gender, uint32_t number, uint32_t grammatical_case,
                                         const void *code, size_t code_length,

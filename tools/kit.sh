@@ -1,5 +1,5 @@
 #!/usr/bin/env bash
-# Compares the toolchain on the PATH with the one that the proofs were made and tested with (kit.txt has what `rt version` prints).
+# Compares the toolchain on the PATH with the one that the proofs were made and tested with (kit.txt has what `rt version` prints of it).
 # Ends with 0 if it is that one, with 1 if it is another, with 2 if there is none.
 set -u
 cd "$(dirname "${BASH_SOURCE[0]}")/.." || exit 2
@@ -11,10 +11,10 @@ fi
 found=$(rt version)
 [ "$found" = "$pinned" ] && exit 0
 cat >&2 <<TEXT
-yokepear: this is another toolchain than the one that the proofs were made and tested with
+yokepear: the toolchain here is not the one that the proofs were made and tested with
   here (rt version): $found
   pinned (kit.txt):  $pinned
-Nothing is built that this one does not prove; but what the other proves it may refuse, and the code that it makes was not measured.
-To move to it: write its line into kit.txt, and run 'make test'.
+Only what the toolchain here proves is built. It may refuse a proof that the pinned one takes; sizes and times in README are the pinned one's.
+To pin the one here instead, write its line into kit.txt and run 'make test'.
 TEXT
 exit 1

@@ -1,5 +1,5 @@
 #!/usr/bin/env bash
-# Proves, and says how far it has come: a line for each crate that is proved, and everything that is not.
+# Proves, and says how far it has come: a line for each crate that is proved, and everything of one that is not.
 #   prove.sh all             every crate, from nothing
 #   prove.sh program NAME    the program and the crates below it: target/bin/NAME
 #   prove.sh library NAME    the same for C: target/staticlib/libNAME.a
@@ -29,22 +29,26 @@ count() {
     END {if (name) reach(name); else for (crate in needs) reach(crate); print crates}' crates.txt
 }
 
-# progress COUNT: shows of what rt says a line for each crate that is proved, and of one that is not, everything. rt says all of a crate, then
-# whether it is proved.
+# progress COUNT: shows what rt says as a line for each crate that is proved; of one that is not, everything. rt says all of a crate, then whether it is proved.
 progress() {
   awk -v count="$1" '
-    function show_crate(name, time) {
+    function crate_proved(name) {
       said = ""
-      if (!(name in proved)) {proved[name] = 1; done++}
-      if (time) print "yokepear: crate " done " of " count ": " name " proved" time
+      if (!(name in proved)) proved[name] = ++done
     }
-    /^rt: [a-z0-9_]+ proved \(unchanged/ {show_crate($2); next}
-    /^rt: [a-z0-9_]+ proved \(/ {show_crate($2, " " $4 " " $5); fflush(); next}
-    /^rt: target\/staticlib\// {said = ""; print; next}
-    /^(fn|struct|enum) .*: proved$/ {next}
+    /^rt: [a-z0-9_]+ proved \(unchanged/ {crate_proved($2); next}
+    /^rt: [a-z0-9_]+ proved \(/ {
+      crate_proved($2)
+      print "yokepear: crate " done " of " count ": " $2 " proved " $4 " " $5
+      fflush()
+      next
+    }
+    # The crate of a library for C, of which rt says only that it is built.
+    /^rt: target\/staticlib\// {crate_proved($2); next}
+    /^(fn|struct|enum) .*: proved$/ || /^rt: ok, / {next}
     /^rt: / {printf "%s", said; said = ""; print; fflush(); next}
     {said = said $0 "\n"}
-    END {printf "%s", said}'
+    END {printf "%s", said; if (done == count) print "yokepear: all " count " crates are proved"}'
 }
 
 prove() {
@@ -52,7 +56,10 @@ prove() {
     all) rt prove ;;
     program) rt check "$2" ;;
     # rt staticlib proves one crate after another: those below are proved before it, several at a time.
-    library) rt check $(below "$2") && rt staticlib "$2" ;;
+    library)
+      mapfile -t needed < <(below "$2")
+      rt check "${needed[@]}" && rt staticlib "$2"
+      ;;
     *) echo "usage: prove.sh all | program NAME | library NAME" >&2; return 2 ;;
   esac
 }
