@@ -1,7 +1,10 @@
 # Yokepear. Each target works from a fresh checkout; the toolchain's command `rt` must be on the PATH.
 .PHONY: test prove phrases lib install host compare bench clean
+# What proves runs several checks at a time, in one folder.
+.NOTPARALLEL:
 
-sources := crates.txt kit.txt $(shell find crates -name '*.rt' -o -name '*.antt')
+# The folders too, so that a file that is gone counts as a change.
+sources := crates.txt kit.txt $(shell find crates -type d -o -name '*.rt' -o -name '*.antt')
 
 # The generated files, the gate (every proof and every must-fail edit), the host's tests and the comparison. The last line is the verdict.
 test:
@@ -31,7 +34,7 @@ target/staticlib/libyokepear.a: $(sources)
 
 # The library, its header, a pkg-config file and the licences below PREFIX; DESTDIR stands before it, for packagers.
 PREFIX ?= /usr/local
-install: lib
+install: target/staticlib/libyokepear.a
 	@PREFIX='$(PREFIX)' DESTDIR='$(DESTDIR)' tools/install.sh
 
 # The host's tests alone: C calls with guarded buffers.

@@ -10,7 +10,7 @@ enum {
   SETTINGS = UK_SETTINGS > FR_SETTINGS ? UK_SETTINGS : FR_SETTINGS
 };
 
-/* The settings of a call in either language, by name and as numbers in the order of their fields. */
+/* The settings of a call, by name in its language, and as numbers in the order of the fields. */
 union settings {
   yokepear_uk uk;
   yokepear_fr fr;
@@ -80,7 +80,7 @@ int next_settings(const struct call *call, union settings *settings);
 /* Prints the name of the request's call and its settings. */
 void show_call(const struct request *request);
 
-/* Asks with settings by name, as the tests do. */
+/* Asks with settings by name. */
 yokepear_answer ask(const struct request *request, uint8_t *out, size_t out_length);
 
 /* Asks with settings as numbers. */

@@ -10,3 +10,6 @@ build=${YOKEPEAR_BUILD:-$repo/target}/host
 mkdir -p "$build"
 warnings=(-Wall -Wextra -Wpedantic -Werror)
 compile=("${CC:-gcc}" -std=c99 -O2 "${warnings[@]}" "-I$include")
+
+# The calls that the header declares, in its order.
+declared_calls() { sed -n 's/^[a-z0-9_]* \(yokepear_[a-z_]*\)(.*/\1/p' "$include/yokepear.h"; }

@@ -6,7 +6,12 @@ set -euo pipefail
 
 # block LANGUAGE: README's first block of code in this language; output LANGUAGE: the first block
 # without a language behind it.
-block() { awk -v begin="\`\`\`$1" '$0 == begin {in_it = 1; next} in_it && /^```$/ {exit} in_it' "$repo/README.md"; }
+block() {
+  awk -v begin="\`\`\`$1" '
+    $0 == begin {in_it = 1; next}
+    in_it && /^```$/ {exit}
+    in_it' "$repo/README.md"
+}
 output() {
   awk -v begin="\`\`\`$1" '
     $0 == begin {seen = 1; next}
@@ -36,7 +41,8 @@ block c > "$build/readme.c"
 "${compile[@]}" "$build/readme.c" "$archive" -o "$build/readme_c"
 prints readme_c "$(output c)"
 block cpp > "$build/readme.cpp"
-"${CXX:-g++}" -std=c++11 -O2 "${warnings[@]}" "-I$include" "$build/readme.cpp" "$archive" -o "$build/readme_cpp"
+"${CXX:-g++}" -std=c++11 -O2 "${warnings[@]}" "-I$include" "$build/readme.cpp" "$archive" \
+  -o "$build/readme_cpp"
 prints readme_cpp "$(output cpp)"
 header_example > "$build/header.c"
 "${compile[@]}" "$build/header.c" "$archive" -o "$build/header_c"

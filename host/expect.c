@@ -72,7 +72,7 @@ static void expect_at(const struct request *r, uint32_t refusal, const uint8_t *
                       size_t length, size_t room, size_t at, int fill, int form) {
   memcpy(want, fills[fill], out_block.size);
   memcpy(out_block.bytes, want, out_block.size);
-  uint32_t want_refusal = refusal ? refusal : length > room ? 7 : 0;
+  uint32_t want_refusal = refusal ? refusal : length > room ? YOKEPEAR_SHORT_BUFFER : YOKEPEAR_DONE;
   size_t want_length = refusal ? 0 : length;
   if (!want_refusal && length) memcpy(want + at, bytes, length);
   yokepear_answer got = forms[form](r, out_block.bytes + at, room);
@@ -95,7 +95,7 @@ static void expect_room(const struct request *r, uint32_t refusal, const uint8_t
 
 /* No buffer at all. */
 static void expect_null(const struct request *r, uint32_t refusal, size_t length) {
-  uint32_t want_refusal = refusal ? refusal : length ? 7 : 0;
+  uint32_t want_refusal = refusal ? refusal : length ? YOKEPEAR_SHORT_BUFFER : YOKEPEAR_DONE;
   size_t want_length = refusal ? 0 : length;
   for (int form = 0; form < 2; form++) {
     yokepear_answer got = forms[form](r, 0, 0);

@@ -11,11 +11,15 @@ linked() {
   size -A "$build/footprint" | awk '$1 ~ /^\.text|^\.rodata/ {bytes += $2} END {print bytes}'
 }
 
-calls=$(sed -n 's/^yokepear_answer \(yokepear_[a-z_]*\)(.*/\1/p' "$include/yokepear.h")
+calls=$(declared_calls)
 none=$(linked)
 stack=$("$host/stack.sh")
+
+# stack_of NAME: its number in what stack.sh prints.
+stack_of() { sed -n "s/^$1: \([0-9]*\) .*/\1/p" <<< "$stack"; }
+
 for call in $calls; do
-  echo "| \`$call\` | $(($(linked "$call") - none)) | $(sed -n "s/^$call: \([0-9]*\) .*/\1/p" <<< "$stack") |"
+  echo "| \`$call\` | $(($(linked "$call") - none)) | $(stack_of "$call") |"
 done
 # shellcheck disable=SC2086
-echo "| all | $(($(linked $calls) - none)) | $(sed -n 's/^deepest: \([0-9]*\) .*/\1/p' <<< "$stack") |"
+echo "| all | $(($(linked $calls) - none)) | $(stack_of deepest) |"

@@ -13,12 +13,18 @@ c_compilers=("${CC:-gcc}") cpp_compilers=("${CXX:-g++}")
 if command -v clang > /dev/null; then c_compilers+=(clang); fi
 if command -v clang++ > /dev/null; then cpp_compilers+=(clang++); fi
 
+# The header, and settings that begin as zeros.
 alone='#include "yokepear.h"'
+zeros='yokepear_uk uk(void); yokepear_uk uk(void)'
+c_zeros=$alone$'\n'"$zeros { yokepear_uk s = {.gender = YOKEPEAR_MASCULINE}; return s; }"
+cpp_zeros=$alone$'\n'"$zeros { yokepear_uk s = {}; return s; }"
 for compiler in "${c_compilers[@]}"; do
-  for standard in 99 11 17; do "$compiler" "-std=c$standard" "${as_c[@]}" - <<< "$alone"; done
+  for standard in 99 11 17; do "$compiler" "-std=c$standard" "${as_c[@]}" - <<< "$c_zeros"; done
 done
 for compiler in "${cpp_compilers[@]}"; do
-  for standard in 98 11 17 20; do "$compiler" "-std=c++$standard" "${as_cpp[@]}" - <<< "$alone"; done
+  for standard in 98 11 17 20; do
+    "$compiler" "-std=c++$standard" "${as_cpp[@]}" - <<< "$cpp_zeros"
+  done
 done
 
 # refused WHAT SOURCE COMPILER..: the source must not compile, though the header by itself does.
@@ -37,6 +43,7 @@ only_swapped() {
   shift 3
   local front=$alone'
 extern yokepear_uk made; yokepear_uk made;
+extern yokepear_fr french; yokepear_fr french;
 extern void make(void); void make(void) {'
   "$@" - <<< "$front $right }"
   refused "$what" "$front $wrong }" "$@"
@@ -48,12 +55,18 @@ settings_in_place() {
     'yokepear_uk s = {YOKEPEAR_GENITIVE, YOKEPEAR_FEMININE, YOKEPEAR_PLURAL}; made = s;' "$@"
   only_swapped 'a case for a gender' \
     'made.gender = YOKEPEAR_NEUTER;' 'made.gender = YOKEPEAR_DATIVE;' "$@"
+  only_swapped 'a case for a region' \
+    'french.region = YOKEPEAR_CH;' 'french.region = YOKEPEAR_DATIVE;' "$@"
   only_swapped 'the settings of the other language' \
     'yokepear_uk s = made; (void)yokepear_uk_to_cardinal_in(s, "1", 1, 0, 0);' \
     'yokepear_uk s = made; (void)yokepear_fr_to_cardinal_in(s, "1", 1, 0, 0);' "$@"
 }
-for compiler in "${c_compilers[@]}"; do settings_in_place "$compiler" -std=c99 "${as_c[@]}"; done
-for compiler in "${cpp_compilers[@]}"; do settings_in_place "$compiler" -std=c++11 "${as_cpp[@]}"; done
+for compiler in "${c_compilers[@]}"; do
+  settings_in_place "$compiler" -std=c99 "${as_c[@]}"
+done
+for compiler in "${cpp_compilers[@]}"; do
+  settings_in_place "$compiler" -std=c++11 "${as_cpp[@]}"
+done
 # There a number outside its range could become one inside it.
 refused 'settings of fewer than 32 bits' "$alone" \
   "${c_compilers[0]}" -std=c99 -fshort-enums "${as_c[@]}"
@@ -65,11 +78,10 @@ same() {
   diff <(echo "$2") <(echo "$3") >&2
   exit 1
 }
-declared=$(grep -o '^yokepear_answer yokepear_[a-z_]*(' "$header" | sed 's/.* //; s/(//' | sort)
-by_name=$(grep -o '^static inline yokepear_answer yokepear_[a-z_]*_in(' "$header" |
-  sed 's/.* //; s/_in(//' | sort)
+declared=$(declared_calls | sort)
+by_name=$(sed -n 's/^static inline [a-z0-9_]* \(yokepear_[a-z_]*\)_in(.*/\1/p' "$header" | sort)
 exported=$(nm --defined-only "$archive" | awk '$2 == "T" {print $3}' | sort)
 same 'the header and the archive have other calls (< header, > archive)' "$declared" "$exported"
 same 'other calls take settings by name (< all calls, > by name)' "$declared" "$by_name"
-echo "header: ${c_compilers[*]} ${cpp_compilers[*]} without a warning, settings keep their places," \
-  "$(wc -l <<< "$declared") calls as in the archive"
+echo "header: ${c_compilers[*]} ${cpp_compilers[*]} without a warning, settings keep their" \
+  "places, $(wc -l <<< "$declared") calls as in the archive"

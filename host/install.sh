@@ -3,9 +3,11 @@
 # flags that pkg-config gives where it is there. The version is the header's, and CHANGELOG's first.
 set -euo pipefail
 . "$(dirname "${BASH_SOURCE[0]}")/common.sh"
-prefix=$build/installed
+prefix=$(realpath -m "$build")/installed
 rm -rf "$prefix" "$build/package"
-YOKEPEAR_LIB=$(dirname "$archive") PREFIX=$prefix "$repo/tools/install.sh" > /dev/null
+export YOKEPEAR_LIB PREFIX=$prefix
+YOKEPEAR_LIB=$(dirname "$archive")
+"$repo/tools/install.sh" > /dev/null
 wanted='include/yokepear.h
 lib/libyokepear.a
 lib/pkgconfig/yokepear.pc
@@ -15,7 +17,7 @@ share/doc/yokepear/NOTICE'
 files=$(cd "$prefix" && find . -type f | sed 's,^\./,,' | sort)
 [ "$files" = "$wanted" ] || { printf 'other files are installed:\n%s\n' "$files" >&2; exit 1; }
 # For a package the same files are gathered elsewhere, and none of them says so.
-YOKEPEAR_LIB=$(dirname "$archive") PREFIX=$prefix DESTDIR=$build/package "$repo/tools/install.sh" > /dev/null
+DESTDIR=$build/package "$repo/tools/install.sh" > /dev/null
 diff -r "$prefix" "$build/package$prefix"
 
 version=$(printf '#include "yokepear.h"\nYOKEPEAR_VERSION\n' |
@@ -27,7 +29,8 @@ changelog=$(sed -n 's/^## \([0-9.]*\).*/\1/p' "$repo/CHANGELOG.md" | head -n 1)
 flags="-I$prefix/include -L$prefix/lib -lyokepear" by='without pkg-config, which is not there'
 if command -v pkg-config > /dev/null; then
   export PKG_CONFIG_PATH=$prefix/lib/pkgconfig
-  [ "$(pkg-config --modversion yokepear)" = "$version" ]
+  [ "$(pkg-config --modversion yokepear)" = "$version" ] ||
+    { echo "the header is version $version, the pkg-config file's is another" >&2; exit 1; }
   flags=$(pkg-config --cflags --libs yokepear) by='by pkg-config'
 fi
 # shellcheck disable=SC2086

@@ -1,6 +1,6 @@
 #!/bin/bash
-# The C host tests: the header, the examples, an installed copy, every call with guarded buffers, the
-# header's sizes, the archive's needs, its size and its stack. Ends non-zero at a difference.
+# The C host tests: the header, every call with guarded buffers, the header's sizes, the examples,
+# an installed copy, the archive's needs, its size and its stack. Ends non-zero at a difference.
 # YOKEPEAR_LIB is the static library's folder.
 set -euo pipefail
 . "$(dirname "${BASH_SOURCE[0]}")/common.sh"

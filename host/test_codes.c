@@ -38,7 +38,7 @@ static void unknown_code(struct request r) {
                                        "\xd0\xbe\xd0\xb4\xd0\xbd\xd0\xb0"};
   for (size_t i = 0; i < sizeof inputs / sizeof *inputs; i++) {
     set_input(&r, inputs[i]);
-    expect_refusal(&r, 2);
+    expect_refusal(&r, YOKEPEAR_BAD_CODE);
   }
 }
 

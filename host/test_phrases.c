@@ -44,7 +44,7 @@ static const char *const money[] = {
 static void refused(struct request r, const uint8_t *phrase, size_t length) {
   r.input = phrase;
   r.input_length = length;
-  do expect_refusal(&r, 6);
+  do expect_refusal(&r, YOKEPEAR_NOT_A_SENTENCE);
   while (next_settings(r.call, &r.settings));
 }
 
@@ -63,7 +63,7 @@ static void refused_long(const struct request *r) {
     struct request copy = *r;
     copy.input = phrase;
     copy.input_length = LONG;
-    expect_refusal(&copy, 6);
+    expect_refusal(&copy, YOKEPEAR_NOT_A_SENTENCE);
   }
   for (size_t length = 0; length < 600; length += 1 + length / 4) {
     for (size_t k = 0; k < length; k++) phrase[k] = (uint8_t)(k * 113 + length);

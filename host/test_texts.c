@@ -32,14 +32,14 @@ static void admitted(struct request r) {
 }
 
 /* The number that refuses a text which is well formed for some kind; 0 if it is admitted. */
-static uint32_t refusal(const struct call *call, uint32_t cardinal, uint32_t ordinal,
-                        uint32_t money) {
+static uint32_t refusal_of(const struct call *call, uint32_t cardinal, uint32_t ordinal,
+                           uint32_t money) {
   return call->kind == MONEY ? money : call->kind == CARDINAL ? cardinal : ordinal;
 }
 
-static void test_text(const struct request *r, uint32_t number) {
-  if (number)
-    expect_refusal(r, number);
+static void test_text(const struct request *r, uint32_t refusal) {
+  if (refusal)
+    expect_refusal(r, refusal);
   else
     admitted(*r);
 }
@@ -78,12 +78,12 @@ static void test_given(struct call *call, const union settings *settings) {
   for (size_t i = 0; i < sizeof malformed / sizeof *malformed; i++) {
     struct request r = on_text(call, malformed[i]);
     r.settings = *settings;
-    expect_refusal(&r, 3);
+    expect_refusal(&r, YOKEPEAR_BAD_TEXT);
   }
   for (size_t i = 0; i < sizeof texts / sizeof *texts; i++) {
     struct request r = on_text(call, texts[i].text);
     r.settings = *settings;
-    test_text(&r, refusal(call, texts[i].cardinal, texts[i].ordinal, texts[i].money));
+    test_text(&r, refusal_of(call, texts[i].cardinal, texts[i].ordinal, texts[i].money));
   }
 }
 
@@ -98,11 +98,11 @@ static void test_long(struct call *call, const union settings *settings, const c
   struct request r = on_text(call, text);
   r.settings = *settings;
   size_t limit = call->french ? 102 : 66;
-  uint32_t number = whole > limit ? 5 : 0;
-  if (call->kind == MONEY || call->kind == DIGIT_ORDINAL) number = 5;
-  if (front[0] == '-' && call->kind != CARDINAL) number = 4;
-  if (front[0] == '0') number = 3;
-  test_text(&r, number);
+  uint32_t refusal = whole > limit ? YOKEPEAR_TOO_LARGE : YOKEPEAR_DONE;
+  if (call->kind == MONEY || call->kind == DIGIT_ORDINAL) refusal = YOKEPEAR_TOO_LARGE;
+  if (front[0] == '-' && call->kind != CARDINAL) refusal = YOKEPEAR_NEGATIVE;
+  if (front[0] == '0') refusal = YOKEPEAR_BAD_TEXT;
+  test_text(&r, refusal);
 }
 
 static void test_limits(struct call *call, const union settings *settings) {
@@ -121,7 +121,7 @@ static void test_limits(struct call *call, const union settings *settings) {
   admitted(r);
   r = on_text(call, "340282366920938463463374607431768211456");
   r.settings = *settings;
-  expect_refusal(&r, 5);
+  expect_refusal(&r, YOKEPEAR_TOO_LARGE);
 }
 
 static void test_years(struct call *call, const union settings *settings) {
@@ -147,12 +147,12 @@ static void test_wrong_settings(struct call *call) {
       for (size_t k = 0; k < sizeof inputs / sizeof *inputs; k++) {
         struct request r = on_text(call, inputs[k]);
         r.settings.numbers[at] = wrong[i];
-        expect_refusal(&r, 1);
+        expect_refusal(&r, YOKEPEAR_BAD_SETTING);
         r.code_length = 2;
-        if (call->kind == MONEY) expect_refusal(&r, 1);
+        if (call->kind == MONEY) expect_refusal(&r, YOKEPEAR_BAD_SETTING);
         for (int other = 0; other < setting_count(call); other++)
           r.settings.numbers[other] = wrong[i];
-        if (wrong[i] >= 6) expect_refusal(&r, 1);
+        if (wrong[i] >= 6) expect_refusal(&r, YOKEPEAR_BAD_SETTING);
       }
   }
 }

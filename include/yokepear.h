@@ -16,7 +16,7 @@
  *   yokepear_NAME takes its settings as numbers, at the front: that is the library's own call.
  *   yokepear_NAME_in takes them as a struct, by name, and hands them on. Use it: settings that are
  *   named cannot change places; and one that a later version adds is then 0, which means what was
- *   said before, as long as a struct begins as zeros: `= {0}` or named fields in C, `= {}` in C++.
+ *   said before. So let a struct begin as zeros: by named fields or `= {0}` in C, `= {}` in C++.
  *
  * Texts and phrases
  *   All are byte strings with a length, UTF-8, without a closing zero byte.
@@ -48,7 +48,7 @@ extern "C" {
 
 /* ---- Version -------------------------------------------------------------------------------- */
 
-/* While the first number is 0, a step of the second may change a call on numbers. */
+/* While the first is 0, a step of the second may add settings to calls that take numbers. */
 #define YOKEPEAR_VERSION_MAJOR 0
 #define YOKEPEAR_VERSION_MINOR 2
 #define YOKEPEAR_VERSION_PATCH 0
@@ -105,10 +105,11 @@ static inline const char *yokepear_refusal_text(uint32_t refusal) {
 /* ---- Settings ------------------------------------------------------------------------------- */
 
 /*
- * A setting whose values have names has a type of its own, so that a compiler tells where one stands
- * for another: by an error in C++, in C by a warning (gcc: -Wextra). The types hold every number of
- * 32 bits; one that is outside the setting's range is for the call to refuse. A number from a file
- * or a menu is cast in C++: see first that it has no more than 32 bits.
+ * A setting whose values have names has a type of its own, so that a compiler tells where one
+ * stands for another: by an error in C++, in C by a warning (gcc: -Wextra). The types hold every
+ * number of 32 bits (before C++11 where the compiler keeps them, as gcc and clang do); one that is
+ * outside the setting's range is for the call to refuse. A number from a file or a menu is cast in
+ * C++: see first that it has no more than 32 bits.
  */
 #if defined __cplusplus && __cplusplus >= 201103L
 #define YOKEPEAR_32_BITS_ : uint32_t

@@ -1,6 +1,6 @@
 #!/usr/bin/env python3
 """Writes what host/footprint.sh prints, given on standard input, into README.md's table of size and stack.
-With --check it writes nothing, and fails where a number is off by more than a twentieth: linkers differ a little, a README that is not true by more."""
+With --check it writes nothing, and fails where a number is off by more than a twentieth: linkers differ by less."""
 import pathlib
 import re
 import sys

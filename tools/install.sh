@@ -10,7 +10,7 @@ case ${PREFIX:-} in '' | *[[:space:]]*) echo "PREFIX is a folder whose path has 
 prefix=$(realpath -ms "$PREFIX")
 root=${DESTDIR:-}$prefix
 
-# The header has the version, and nothing else does.
+# The version is set in the header alone.
 part() { sed -n "s/^#define YOKEPEAR_VERSION_$1 //p" "$repo/include/yokepear.h"; }
 version=$(part MAJOR).$(part MINOR).$(part PATCH)
 
@@ -20,8 +20,7 @@ put() { install -D -m 644 -t "$root/$1" "${@:2}"; }
 put include "$repo/include/yokepear.h"
 put lib "$archive"
 put share/doc/yokepear "$repo"/{LICENSE-MIT,LICENSE-APACHE,NOTICE}
-mkdir -p "$root/lib/pkgconfig"
-cat > "$root/lib/pkgconfig/yokepear.pc" <<TEXT
+install -D -m 644 /dev/stdin "$root/lib/pkgconfig/yokepear.pc" <<TEXT
 prefix=$prefix
 includedir=\${prefix}/include
 libdir=\${prefix}/lib

@@ -3,7 +3,7 @@
 #   prove.sh all             every crate, from nothing
 #   prove.sh program NAME    the program and the crates below it: target/bin/NAME
 #   prove.sh library NAME    the same for C: target/staticlib/libNAME.a
-# A crate that has not changed since it was proved is not proved again, but by `all`.
+# A crate that has not changed since it was proved is not proved again, except by `all`.
 set -u
 cd "$(dirname "${BASH_SOURCE[0]}")/.." || exit 2
 tools/kit.sh
@@ -29,7 +29,8 @@ count() {
     END {if (name) reach(name); else for (crate in needs) reach(crate); print crates}' crates.txt
 }
 
-# progress COUNT: shows what rt says as a line for each crate that is proved; of one that is not, everything. rt says all of a crate, then whether it is proved.
+# progress COUNT: shows what rt says as a line for each crate that is proved; of one that is not, everything. rt says all of a crate, then whether
+# it is proved.
 progress() {
   awk -v count="$1" '
     function crate_proved(name) {
@@ -60,11 +61,13 @@ prove() {
       mapfile -t needed < <(below "$2")
       rt check "${needed[@]}" && rt staticlib "$2"
       ;;
-    *) echo "usage: prove.sh all | program NAME | library NAME" >&2; return 2 ;;
   esac
 }
 
-crates=$(count "${2:-}")
+case "${1:-} $#" in
+  'all 1' | 'program 2' | 'library 2') crates=$(count "${2:-}") ;;
+esac
+[ -n "${crates:-}" ] || { echo "usage: prove.sh all | program NAME | library NAME, a crate of crates.txt" >&2; exit 2; }
 echo "yokepear: $crates crates to prove, $RT_JOBS at a time; from nothing this takes minutes"
 prove "$@" 2>&1 | progress "$crates"
 exit "${PIPESTATUS[0]}"

@@ -1,5 +1,6 @@
 #!/usr/bin/env bash
-# The test command: the toolchain's identity, the layout, the generated files and tables, the gate over all crates, then the host's tests and the comparison; ends in the verdict 'N passed, M failed'.
+# The test command: the toolchain's identity, the layout, the generated files and tables, the gate over all crates, then the host's tests and the
+# comparison; ends in the verdict 'N passed, M failed'.
 # Where a step fails, what each of them said stays in target-log. It is not in target, which `rt ci` removes.
 set -u
 cd "$(dirname "${BASH_SOURCE[0]}")/.." || exit 1
