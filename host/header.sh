@@ -4,7 +4,8 @@
 set -euo pipefail
 . "$(dirname "${BASH_SOURCE[0]}")/common.sh"
 header=$include/yokepear.h
-all=("${warnings[@]}" -Wconversion -Wsign-conversion -Wundef -Wshadow -fsyntax-only "-I$include")
+usual=("${warnings[@]}" -fsyntax-only "-I$include")
+all=("${usual[@]}" -Wconversion -Wsign-conversion -Wundef -Wshadow)
 as_c=("${all[@]}" -Wstrict-prototypes -Wmissing-prototypes -Wc++-compat -x c)
 as_cpp=("${all[@]}" -Wold-style-cast -x c++)
 
@@ -61,11 +62,12 @@ settings_in_place() {
     'yokepear_uk s = made; (void)yokepear_uk_to_cardinal_in(s, "1", 1, 0, 0);' \
     'yokepear_uk s = made; (void)yokepear_fr_to_cardinal_in(s, "1", 1, 0, 0);' "$@"
 }
+# The usual warnings tell it.
 for compiler in "${c_compilers[@]}"; do
-  settings_in_place "$compiler" -std=c99 "${as_c[@]}"
+  settings_in_place "$compiler" -std=c99 "${usual[@]}" -x c
 done
 for compiler in "${cpp_compilers[@]}"; do
-  settings_in_place "$compiler" -std=c++11 "${as_cpp[@]}"
+  settings_in_place "$compiler" -std=c++11 "${usual[@]}" -x c++
 done
 # There a number outside its range could become one inside it.
 refused 'settings of fewer than 32 bits' "$alone" \
