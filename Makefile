@@ -32,8 +32,12 @@ target/staticlib/libyokepear.a: $(sources)
 	@tools/prove.sh library yokepear
 	@touch $@
 
-# The library, its header, a pkg-config file and the licences below PREFIX; DESTDIR stands before it, for packagers.
-PREFIX ?= /usr/local
+# make install PREFIX=FOLDER: the library, its header, a pkg-config file and the licences; DESTDIR stands before it, for packagers.
+ifneq ($(filter install,$(MAKECMDGOALS)),)
+ifeq ($(PREFIX),)
+$(error make install PREFIX=FOLDER: no folder is given)
+endif
+endif
 install: target/staticlib/libyokepear.a
 	@PREFIX='$(PREFIX)' DESTDIR='$(DESTDIR)' tools/install.sh
 

@@ -5,7 +5,7 @@ set -euo pipefail
 repo=$(cd "$(dirname "${BASH_SOURCE[0]}")/.." && pwd)
 archive=${YOKEPEAR_LIB:-$repo/target/staticlib}/libyokepear.a
 # A pkg-config file gives flags that a shell divides at spaces.
-case ${PREFIX:-} in '' | *[[:space:]]*) echo "PREFIX is a folder whose path has no spaces, not '${PREFIX:-}'" >&2; exit 1 ;; esac
+case ${PREFIX:-} in '' | *[[:space:]]*) echo "PREFIX must be a folder whose path has no spaces, and is '${PREFIX:-}'" >&2; exit 1 ;; esac
 [ -f "$archive" ] || { echo "no static library at $archive: run 'make lib', or set YOKEPEAR_LIB" >&2; exit 1; }
 prefix=$(realpath -ms "$PREFIX")
 root=${DESTDIR:-}$prefix
