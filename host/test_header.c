@@ -46,7 +46,7 @@ static void stop(const char *what, unsigned refusal) {
   exit(1);
 }
 
-enum { LONGEST_SENTENCE = 60 };
+enum { LONGEST_SENTENCE = 60, LONGEST_VERSION = 40 };
 
 /* Each refusal has a sentence of its own that a log can take; all other numbers have one. */
 static void test_sentences(void) {
@@ -65,7 +65,7 @@ static void test_sentences(void) {
 }
 
 static void test_version(void) {
-  char version[LONGEST_SENTENCE];
+  char version[LONGEST_VERSION];
   snprintf(version, sizeof version, "%d.%d.%d", YOKEPEAR_VERSION_MAJOR, YOKEPEAR_VERSION_MINOR,
            YOKEPEAR_VERSION_PATCH);
   if (!strcmp(version, YOKEPEAR_VERSION)) return;
