@@ -20,7 +20,7 @@ mod table;
 mod times;
 
 use inputs::{Figures, Input};
-use kinds::{Kind, KINDS};
+use kinds::{Kind, Task, KINDS};
 use subjects::Subject;
 
 /// The lent buffer, longer than the longest answer. It has a page of its own: an answer that goes over
@@ -37,7 +37,7 @@ impl Room {
 /// One line of the table: a call on figures of one sort.
 pub struct Case {
     pub kind: Kind,
-    pub reading: bool,
+    pub task: Task,
     pub figures: Figures,
     pub inputs: Vec<Input>,
 }
@@ -64,12 +64,12 @@ fn main() {
 fn cases() -> Vec<Case> {
     let mut cases = Vec::new();
     for kind in KINDS {
-        for reading in [false, true] {
-            if library(kind, reading).is_none() {
+        for task in [Task::Spelling, Task::Measuring, Task::Reading] {
+            if library(kind, task).is_none() {
                 continue;
             }
             for figures in inputs::figures(kind) {
-                let case = Case { kind, reading, figures, inputs: inputs::inputs(kind, figures) };
+                let case = Case { kind, task, figures, inputs: inputs::inputs(kind, figures) };
                 check(&case);
                 cases.push(case);
             }
@@ -78,24 +78,33 @@ fn cases() -> Vec<Case> {
     cases
 }
 
-pub fn library(kind: Kind, reading: bool) -> Option<Subject> {
-    if reading {
-        subjects::reading(kind)
-    } else {
-        Some(subjects::spelling(kind))
+pub fn library(kind: Kind, task: Task) -> Option<Subject> {
+    match task {
+        Task::Spelling => Some(subjects::spelling(kind)),
+        Task::Measuring => Some(subjects::measuring(kind)),
+        Task::Reading => subjects::reading(kind),
     }
 }
 
-/// What is measured must be right: the library and plain C give the Rust's phrase, or its text.
+/// The library's call, and plain C's where it is spelled.
+fn subjects_of(case: &Case) -> impl Iterator<Item = Subject> {
+    let plain = (case.task == Task::Spelling).then(|| subjects::plain(case.kind));
+    library(case.kind, case.task).into_iter().chain(plain)
+}
+
+/// What is measured must be right: the library and plain C give the Rust's phrase, its text or its
+/// length.
 fn check(case: &Case) {
     let Room(out) = &mut Room::new();
-    let plain = (!case.reading).then(|| subjects::plain(case.kind));
-    for subject in library(case.kind, case.reading).into_iter().chain(plain) {
+    for subject in subjects_of(case) {
         for input in &case.inputs {
-            let expected = if case.reading { &input.text } else { &input.phrase };
             let length = subject(input, out);
-            let shown = String::from_utf8_lossy(&input.text);
-            assert!(out[..length] == expected[..], "another answer for {shown}");
+            let right = match case.task {
+                Task::Spelling => out[..length] == input.phrase[..],
+                Task::Measuring => length == input.phrase.len(),
+                Task::Reading => out[..length] == input.text[..],
+            };
+            assert!(right, "another answer for {}", String::from_utf8_lossy(&input.text));
         }
     }
 }
@@ -110,8 +119,7 @@ pub fn bench_pass(inputs: &[Input], subject: &Subject, out: &mut [u8]) -> usize 
 /// The passes that callgrind counts, in this order: the library, and plain C where it spells.
 fn count(case: &Case) {
     let Room(out) = &mut Room::new();
-    let plain = (!case.reading).then(|| subjects::plain(case.kind));
-    for subject in library(case.kind, case.reading).into_iter().chain(plain) {
+    for subject in subjects_of(case) {
         std::hint::black_box(bench_pass(&case.inputs, &subject, out));
     }
 }

@@ -1,4 +1,4 @@
-//! What is measured: the library's calls, the plain C spellers, the Rust, and copying the phrase.
+//! What is timed: the library's calls, the plain C spellers, the Rust, and copying the phrase.
 
 use crate::expect;
 use crate::inputs::Input;
@@ -21,6 +21,21 @@ impl Answer {
     }
 }
 
+#[repr(C)]
+struct Measure {
+    refusal: u32,
+    words: u32,
+    length: usize,
+}
+
+impl Measure {
+    /// The length; the words are taken too, so that no one leaves out their count.
+    fn length(self) -> usize {
+        assert!(self.refusal == 0 && self.words > 0, "refused {}", self.refusal);
+        self.length
+    }
+}
+
 /// Declares a C call and a function that makes a subject of it; the tokens after the name are the
 /// arguments between the settings and the buffer.
 macro_rules! c_call {
@@ -37,15 +52,36 @@ macro_rules! c_call {
     };
 }
 
+/// The same of a measuring call, which is lent no buffer.
+macro_rules! measure_call {
+    ($name:ident, $input:ident, ($($type:ty),*), ($($argument:expr),*)) => {
+        fn $name() -> Subject {
+            extern "C" {
+                fn $name(a: u32, b: u32, c: u32, $(_: $type),*) -> Measure;
+            }
+            Box::new(|$input, _| {
+                let [a, b, c] = $input.manner.settings;
+                unsafe { $name(a, b, c, $($argument),*) }.length()
+            })
+        }
+    };
+}
+
 macro_rules! on_text {
     ($name:ident, $field:ident) => {
-        c_call!($name, input, (*const u8, usize), (input.$field.as_ptr(), input.$field.len()));
+        on_text!($name, $field, c_call);
+    };
+    ($name:ident, $field:ident, $call:ident) => {
+        $call!($name, input, (*const u8, usize), (input.$field.as_ptr(), input.$field.len()));
     };
 }
 
 macro_rules! on_money {
     ($name:ident, $field:ident) => {
-        c_call!(
+        on_money!($name, $field, c_call);
+    };
+    ($name:ident, $field:ident, $call:ident) => {
+        $call!(
             $name,
             input,
             (*const u8, usize, *const u8, usize),
@@ -60,8 +96,8 @@ macro_rules! on_money {
 }
 
 macro_rules! on_year {
-    ($name:ident) => {
-        c_call!($name, input, (i64), (input.year));
+    ($name:ident, $call:ident) => {
+        $call!($name, input, (i64), (input.year));
     };
 }
 
@@ -75,12 +111,19 @@ on_money!(yokepear_uk_to_currency, text);
 on_money!(yokepear_uk_from_currency, phrase);
 on_text!(yokepear_uk_to_ordinal, text);
 on_text!(yokepear_uk_to_ordinal_num, text);
-on_year!(yokepear_uk_to_year);
+on_year!(yokepear_uk_to_year, c_call);
+on_text!(yokepear_uk_measure_cardinal, text, measure_call);
+on_money!(yokepear_uk_measure_currency, text, measure_call);
+on_text!(yokepear_uk_measure_ordinal, text, measure_call);
+on_text!(yokepear_uk_measure_ordinal_num, text, measure_call);
+on_year!(yokepear_uk_measure_year, measure_call);
+on_text!(yokepear_fr_measure_cardinal, text, measure_call);
+on_text!(yokepear_fr_measure_ordinal, text, measure_call);
 on_text!(plain_uk_to_cardinal, text);
 on_text!(plain_uk_to_ordinal, text);
 on_text!(plain_uk_to_ordinal_num, text);
 on_money!(plain_uk_to_currency, text);
-on_year!(plain_uk_to_year);
+on_year!(plain_uk_to_year, c_call);
 on_text!(plain_fr_to_cardinal, text);
 on_text!(plain_fr_to_ordinal, text);
 
@@ -94,6 +137,19 @@ pub fn spelling(kind: Kind) -> Subject {
         Kind::UkYear => yokepear_uk_to_year(),
         Kind::FrCardinal => yokepear_fr_to_cardinal(),
         Kind::FrOrdinal => yokepear_fr_to_ordinal(),
+    }
+}
+
+/// The library's measuring call.
+pub fn measuring(kind: Kind) -> Subject {
+    match kind {
+        Kind::UkCardinal => yokepear_uk_measure_cardinal(),
+        Kind::UkMoney => yokepear_uk_measure_currency(),
+        Kind::UkOrdinal => yokepear_uk_measure_ordinal(),
+        Kind::UkDigitOrdinal => yokepear_uk_measure_ordinal_num(),
+        Kind::UkYear => yokepear_uk_measure_year(),
+        Kind::FrCardinal => yokepear_fr_measure_cardinal(),
+        Kind::FrOrdinal => yokepear_fr_measure_ordinal(),
     }
 }
 

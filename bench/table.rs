@@ -1,5 +1,6 @@
 //! Prints the table.
 
+use crate::kinds::Task;
 use crate::times::{times, Times};
 use crate::Case;
 
@@ -22,7 +23,7 @@ const HEADINGS: [&str; 10] = [
     "Rust / ours",
     "ours / plain C",
     "ours / copy",
-    "reading / spelling",
+    "ours / spelling",
     "instructions per byte",
     "plain C's",
 ];
@@ -52,20 +53,21 @@ pub fn print(cases: &[Case], counts: &[u64]) {
 
 /// How many passes callgrind counts for a case.
 fn passes(case: &Case) -> usize {
-    if case.reading {
-        1
-    } else {
+    if case.task == Task::Spelling {
         2
+    } else {
+        1
     }
 }
 
 fn same_call(a: &Case, b: &Case) -> bool {
-    (a.kind, a.reading) == (b.kind, b.reading)
+    (a.kind, a.task) == (b.kind, b.task)
 }
 
 fn measured(case: &Case, times: Times, counts: &mut impl Iterator<Item = f64>) -> Measured {
     let our_instructions = counts.next().unwrap_or(0.0);
-    let plain_instructions = if case.reading { 0.0 } else { counts.next().unwrap_or(0.0) };
+    let plain = if case.task == Task::Spelling { counts.next() } else { None };
+    let plain_instructions = plain.unwrap_or(0.0);
     Measured {
         phrases: case.inputs.len() as f64,
         bytes: case.inputs.iter().map(|input| input.phrase.len() as f64).sum(),
@@ -103,8 +105,7 @@ fn ratio(a: f64, b: f64) -> String {
 
 fn line(case: &Case, figures: &str, m: &Measured) {
     let times = &m.times;
-    let call = if case.reading { case.kind.reading_call() } else { None };
-    let call = call.unwrap_or(case.kind.spelling_call());
+    let call = case.kind.call(case.task).expect("a case has a call");
     let cells = [
         call.to_string(),
         figures.to_string(),

@@ -1,6 +1,7 @@
 //! Takes the times: the shortest of many, as whatever else the machine does only makes one longer.
 
 use crate::inputs::Input;
+use crate::kinds::Task;
 use crate::{bench_pass, library, subjects, Case, Room, Subject};
 use std::time::{Duration, Instant};
 
@@ -18,7 +19,7 @@ pub struct Times {
     pub copy: f64,
     pub plain: f64,
     pub rust: f64,
-    /// The spelling of the figures that a reading case reads.
+    /// The spelling of the figures that a case reads or measures.
     pub spelling: f64,
 }
 
@@ -57,12 +58,12 @@ pub fn times(cases: &[Case]) -> Vec<Times> {
 
 /// What takes turns in a case; `named` knows the order.
 fn subjects_of(case: &Case) -> Vec<Timed> {
-    let ours = library(case.kind, case.reading).expect("a case has a call");
+    let ours = library(case.kind, case.task).expect("a case has a call");
     let mut all = vec![ours, subjects::copy()];
-    if case.reading {
-        all.push(subjects::spelling(case.kind));
-    } else {
+    if case.task == Task::Spelling {
         all.extend([subjects::plain(case.kind), subjects::rust()]);
+    } else {
+        all.push(subjects::spelling(case.kind));
     }
     all.into_iter().map(|subject| Timed::new(&case.inputs, subject)).collect()
 }
@@ -70,10 +71,10 @@ fn subjects_of(case: &Case) -> Vec<Timed> {
 fn named(case: &Case, subjects: &[Timed]) -> Times {
     let best: Vec<f64> = subjects.iter().map(|subject| subject.best).collect();
     let times = Times { ours: best[0], copy: best[1], ..Times::default() };
-    if case.reading {
-        Times { spelling: best[2], ..times }
-    } else {
+    if case.task == Task::Spelling {
         Times { plain: best[2], rust: best[3], ..times }
+    } else {
+        Times { spelling: best[2], ..times }
     }
 }
 

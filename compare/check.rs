@@ -1,9 +1,9 @@
-//! Asks one call and compares its refusal, its length and every byte of its buffer.
+//! Asks one call and compares its refusal, its figures and every byte of its buffer.
 
-use crate::calls::{self, Answer};
+use crate::calls::{self, Answer, Measure};
 use crate::expect::{self, Expected};
 use crate::guess;
-use crate::kinds::{Kind, Manner, Settings};
+use crate::kinds::{Kind, Manner, Settings, Task};
 
 /// More than the longest answer.
 pub const ROOM: usize = 4096;
@@ -14,6 +14,7 @@ const UNTOUCHED: [u8; ROOM] = [0xa5; ROOM];
 pub struct Counts {
     pub spelled: u64,
     pub refused: u64,
+    pub measured: u64,
     pub read_back: u64,
     pub rooms: u64,
     pub damaged: u64,
@@ -25,7 +26,7 @@ pub struct Difference {
     pub kind: Kind,
     pub settings: Settings,
     pub code: Vec<u8>,
-    pub reading: bool,
+    pub task: Task,
     pub input: Vec<u8>,
     pub what: String,
 }
@@ -53,25 +54,55 @@ impl Checker {
         Checker { counts, reader, buffer: UNTOUCHED, every, turn: 0 }
     }
 
-    /// Spells a text, compares, and reads the phrase back.
+    /// Spells a text, compares, measures it, and reads the phrase back.
     pub fn spelled(&mut self, manner: &Manner, text: &[u8]) -> Result<(), Difference> {
-        if manner.kind == Kind::UkYear && expect::refusal_of_text(manner.kind, text).is_some() {
-            return Ok(()); // The call takes an i64: there is no such year to ask for.
+        if !can_be_asked(manner, text) {
+            return Ok(());
         }
-        let fail = |what| difference(manner, false, text, what);
+        let fail = |what| difference(manner, Task::Spelling, text, what);
         let ask = |out: &mut [u8]| calls::spell(manner, text, out);
-        match expect::spelling(manner, text) {
+        let expected = expect::spelling(manner, text);
+        match &expected {
             Expected::Refused(refusal) => {
                 self.counts.refused += 1;
-                self.compare(ROOM, Outcome::Refused(refusal), ask).map_err(fail)
+                self.compare(ROOM, Outcome::Refused(*refusal), ask).map_err(fail)?;
+                self.compare_measure(manner, text, &expected)
             }
             Expected::Said(phrase) => {
                 self.counts.spelled += 1;
                 let outcome = Outcome::Bytes(phrase.as_bytes());
                 self.compare_rooms(outcome, phrase.len(), ask).map_err(fail)?;
+                self.compare_measure(manner, text, &expected)?;
                 self.read_back(manner, phrase.as_bytes(), text)
             }
         }
+    }
+
+    /// Measures what is said of a text, and nothing else.
+    pub fn measured(&mut self, manner: &Manner, text: &[u8]) -> Result<(), Difference> {
+        if !can_be_asked(manner, text) {
+            return Ok(());
+        }
+        self.compare_measure(manner, text, &expect::spelling(manner, text))
+    }
+
+    fn compare_measure(
+        &mut self,
+        manner: &Manner,
+        text: &[u8],
+        expected: &Expected,
+    ) -> Result<(), Difference> {
+        self.counts.measured += 1;
+        let expected = match expected {
+            Expected::Refused(refusal) => Measure { refusal: *refusal, words: 0, length: 0 },
+            Expected::Said(phrase) => measure_of(phrase),
+        };
+        let answer = calls::measure(manner, text);
+        if answer == expected {
+            return Ok(());
+        }
+        let what = format!("  expected: {expected:?}\n  answered: {answer:?}");
+        Err(difference(manner, Task::Measuring, text, what))
     }
 
     fn read_back(&mut self, manner: &Manner, phrase: &[u8], text: &[u8]) -> Result<(), Difference> {
@@ -82,7 +113,7 @@ impl Checker {
         if self.counts.read_back % self.every == 0 {
             self.guess_is_right(manner, phrase, text);
         }
-        let fail = |what| difference(manner, true, phrase, what);
+        let fail = |what| difference(manner, Task::Reading, phrase, what);
         let ask = |out: &mut [u8]| calls::read(manner, phrase, out);
         self.compare_rooms(Outcome::Bytes(text), text.len(), ask).map_err(fail)
     }
@@ -100,7 +131,7 @@ impl Checker {
         let needed = text.as_ref().map_or(0, String::len);
         let ask = |out: &mut [u8]| calls::read(manner, phrase, out);
         let compared = self.compare_rooms(outcome, needed, ask);
-        compared.map_err(|what| difference(manner, true, phrase, what))
+        compared.map_err(|what| difference(manner, Task::Reading, phrase, what))
     }
 
     /// Checks the guess itself on a phrase whose text is known, so that a 6 is never excused by it.
@@ -159,12 +190,24 @@ impl Checker {
     }
 }
 
-fn difference(manner: &Manner, reading: bool, input: &[u8], what: String) -> Difference {
+/// The year's calls take an i64: there is no year to ask for of any other text.
+fn can_be_asked(manner: &Manner, text: &[u8]) -> bool {
+    manner.kind != Kind::UkYear || expect::refusal_of_text(manner.kind, text).is_none()
+}
+
+/// What the Rust's phrase measures. Words are counted where spaces part them, so none may be empty.
+fn measure_of(phrase: &str) -> Measure {
+    let words = phrase.split(' ');
+    assert!(words.clone().all(|word| !word.is_empty()), "[{phrase}] has a space too many");
+    Measure { refusal: 0, words: words.count() as u32, length: phrase.len() }
+}
+
+fn difference(manner: &Manner, task: Task, input: &[u8], what: String) -> Difference {
     Difference {
         kind: manner.kind,
         settings: manner.settings,
         code: manner.code.to_vec(),
-        reading,
+        task,
         input: input.to_vec(),
         what,
     }

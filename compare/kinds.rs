@@ -1,6 +1,6 @@
 //! The kinds of phrase, their settings and limits, and a figure to be spoken.
 
-/// What is spoken. Each kind has a spelling call; four have a reading call.
+/// What is spoken. Each kind has a spelling and a measuring call; four have a reading call.
 #[derive(Clone, Copy, PartialEq, Eq, Hash, Debug)]
 pub enum Kind {
     UkCardinal,
@@ -21,6 +21,14 @@ pub const KINDS: [Kind; 7] = [
     Kind::FrCardinal,
     Kind::FrOrdinal,
 ];
+
+/// What a call does with a figure.
+#[derive(Clone, Copy, PartialEq, Eq, Debug)]
+pub enum Task {
+    Spelling,
+    Measuring,
+    Reading,
+}
 
 /// Ukrainian: gender, number, case. French: feminine, reformed, region.
 pub type Settings = [u32; 3];
@@ -51,6 +59,19 @@ impl Kind {
         }
     }
 
+    /// The measuring call without its prefix.
+    pub fn measuring_call(self) -> &'static str {
+        match self {
+            Kind::UkCardinal => "uk_measure_cardinal",
+            Kind::UkMoney => "uk_measure_currency",
+            Kind::UkOrdinal => "uk_measure_ordinal",
+            Kind::UkDigitOrdinal => "uk_measure_ordinal_num",
+            Kind::UkYear => "uk_measure_year",
+            Kind::FrCardinal => "fr_measure_cardinal",
+            Kind::FrOrdinal => "fr_measure_ordinal",
+        }
+    }
+
     /// The reading call without its prefix, for the kinds that have one.
     pub fn reading_call(self) -> Option<&'static str> {
         match self {
@@ -59,6 +80,15 @@ impl Kind {
             Kind::FrCardinal => Some("fr_from_cardinal"),
             Kind::FrOrdinal => Some("fr_from_ordinal"),
             _ => None,
+        }
+    }
+
+    /// The call for a task without its prefix, if the kind has one.
+    pub fn call(self, task: Task) -> Option<&'static str> {
+        match task {
+            Task::Spelling => Some(self.spelling_call()),
+            Task::Measuring => Some(self.measuring_call()),
+            Task::Reading => self.reading_call(),
         }
     }
 

@@ -122,6 +122,7 @@ fn compare_kind(kind: Kind, size: &Size, seed: u64) -> Result<Counts, Difference
 fn add(total: &mut Counts, counts: &Counts) {
     total.spelled += counts.spelled;
     total.refused += counts.refused;
+    total.measured += counts.measured;
     total.read_back += counts.read_back;
     total.rooms += counts.rooms;
     total.damaged += counts.damaged;
@@ -129,10 +130,11 @@ fn add(total: &mut Counts, counts: &Counts) {
 }
 
 fn show(counts: &Counts) -> String {
-    let Counts { spelled, refused, read_back, rooms, damaged, still_sentences } = counts;
+    let Counts { spelled, refused, measured, read_back, rooms, damaged, still_sentences } = counts;
     let spelling = format!("{spelled} phrases as the Rust's, {refused} texts refused as predicted");
     let reading = format!("{read_back} phrases read back, {damaged} damaged phrases read");
-    format!("{spelling}, {reading} ({still_sentences} of them sentences), {rooms} small buffers")
+    let reading = format!("{reading} ({still_sentences} of them sentences)");
+    format!("{spelling}, {measured} measured, {reading}, {rooms} small buffers")
 }
 
 /// Says what differs, with the smallest input that was found to show it.
@@ -140,8 +142,7 @@ fn report(found: Difference) {
     let first = String::from_utf8_lossy(&found.input).into_owned();
     let found = shrink::smallest(found);
     let manner = Manner { kind: found.kind, settings: found.settings, code: &found.code };
-    let call = if found.reading { found.kind.reading_call() } else { None };
-    let call = call.unwrap_or(found.kind.spelling_call());
+    let call = found.kind.call(found.task).expect("a call that was asked");
     println!("DIFFERENCE in yokepear_{call} ({})", manner.show());
     println!("  input: [{}] ({})", String::from_utf8_lossy(&found.input), hex(&found.input));
     println!("{}", found.what);

@@ -1,16 +1,19 @@
 //! From a difference to one with a smallest input, for the report.
 
 use crate::check::{Checker, Difference};
-use crate::kinds::Manner;
+use crate::kinds::{Manner, Task};
 
 /// The difference with an input that no single simplification can shorten.
 pub fn smallest(mut found: Difference) -> Difference {
     let mut checker = Checker::new(1);
     'again: loop {
         for input in simpler(&found) {
-            if let Err(smaller) = ask(&mut checker, &found, &input) {
-                found = smaller;
-                continue 'again;
+            match ask(&mut checker, &found, &input) {
+                Err(smaller) if smaller.task == found.task => {
+                    found = smaller;
+                    continue 'again;
+                }
+                _ => (),
             }
         }
         return found;
@@ -21,18 +24,19 @@ pub fn smallest(mut found: Difference) -> Difference {
 fn ask(checker: &mut Checker, found: &Difference, input: &[u8]) -> Result<(), Difference> {
     let (kind, settings) = (found.kind, found.settings);
     let manner = Manner { kind, settings, code: &found.code };
-    if found.reading {
-        checker.read(&manner, input)
-    } else {
-        checker.spelled(&manner, input)
+    match found.task {
+        Task::Spelling => checker.spelled(&manner, input),
+        Task::Measuring => checker.measured(&manner, input),
+        Task::Reading => checker.read(&manner, input),
     }
 }
 
 /// Shorter inputs, and inputs of the same length with smaller bytes.
 fn simpler(found: &Difference) -> Vec<Vec<u8>> {
     let input = &found.input;
+    let is_text = found.task != Task::Reading;
     let mut inputs = Vec::new();
-    if !found.reading {
+    if is_text {
         let numbers = (0..2000).map(|n: u32| n.to_string().into_bytes());
         inputs.extend(numbers.filter(|n| (n.len(), n) < (input.len(), input)));
     }
@@ -49,7 +53,7 @@ fn simpler(found: &Difference) -> Vec<Vec<u8>> {
             inputs.extend(starts.map(|at| [&input[..at], &input[at + piece..]].concat()));
         }
     }
-    if !found.reading {
+    if is_text {
         for (at, byte) in input.iter().enumerate().filter(|(_, b)| b.is_ascii_digit()) {
             inputs.extend((b'0'..*byte).map(|b| {
                 let mut other = input.clone();

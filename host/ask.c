@@ -1,6 +1,7 @@
 #include "ask.h"
 
 #include <stdio.h>
+#include <stdlib.h>
 #include <string.h>
 
 /* A function for each call that hands a request on, with settings by name. */
@@ -25,21 +26,43 @@ BY_NAME(fr_from_cardinal, FR_TEXT)
 BY_NAME(fr_to_ordinal, FR_TEXT)
 BY_NAME(fr_from_ordinal, FR_TEXT)
 
+/* The same for each measuring call, which has no buffer. */
+#define MEASURE_BY_NAME(call, ...)                                     \
+  static yokepear_measure call##_by_name(const struct request *r) {    \
+    return yokepear_##call##_in(__VA_ARGS__);                          \
+  }
+
+MEASURE_BY_NAME(uk_measure_cardinal, UK_TEXT)
+MEASURE_BY_NAME(uk_measure_ordinal, UK_TEXT)
+MEASURE_BY_NAME(uk_measure_ordinal_num, UK_TEXT)
+MEASURE_BY_NAME(uk_measure_year, UK_YEAR)
+MEASURE_BY_NAME(uk_measure_currency, UK_MONEY)
+MEASURE_BY_NAME(fr_measure_cardinal, FR_TEXT)
+MEASURE_BY_NAME(fr_measure_ordinal, FR_TEXT)
+
 #define BOTH_FORMS(call, form) \
   .name = #call, .by_name = call##_by_name, .form = yokepear_##call
+#define MEASURED(call, form) .measuring = {BOTH_FORMS(call, form)}
 
 struct call calls[] = {
-    {BOTH_FORMS(uk_to_cardinal, uk_on_text), .kind = CARDINAL},
+    {BOTH_FORMS(uk_to_cardinal, uk_on_text), .kind = CARDINAL,
+     MEASURED(uk_measure_cardinal, uk_on_text)},
     {BOTH_FORMS(uk_from_cardinal, uk_on_text), .kind = CARDINAL, .reading = 1},
-    {BOTH_FORMS(fr_to_cardinal, fr_on_text), .kind = CARDINAL, .french = 1},
+    {BOTH_FORMS(fr_to_cardinal, fr_on_text), .kind = CARDINAL, .french = 1,
+     MEASURED(fr_measure_cardinal, fr_on_text)},
     {BOTH_FORMS(fr_from_cardinal, fr_on_text), .kind = CARDINAL, .french = 1, .reading = 1},
-    {BOTH_FORMS(fr_to_ordinal, fr_on_text), .kind = ORDINAL, .french = 1},
+    {BOTH_FORMS(fr_to_ordinal, fr_on_text), .kind = ORDINAL, .french = 1,
+     MEASURED(fr_measure_ordinal, fr_on_text)},
     {BOTH_FORMS(fr_from_ordinal, fr_on_text), .kind = ORDINAL, .french = 1, .reading = 1},
-    {BOTH_FORMS(uk_to_currency, uk_on_money), .kind = MONEY},
+    {BOTH_FORMS(uk_to_currency, uk_on_money), .kind = MONEY,
+     MEASURED(uk_measure_currency, uk_on_money)},
     {BOTH_FORMS(uk_from_currency, uk_on_money), .kind = MONEY, .reading = 1},
-    {BOTH_FORMS(uk_to_ordinal, uk_on_text), .kind = ORDINAL},
-    {BOTH_FORMS(uk_to_ordinal_num, uk_on_text), .kind = DIGIT_ORDINAL},
-    {BOTH_FORMS(uk_to_year, uk_on_year), .kind = YEAR},
+    {BOTH_FORMS(uk_to_ordinal, uk_on_text), .kind = ORDINAL,
+     MEASURED(uk_measure_ordinal, uk_on_text)},
+    {BOTH_FORMS(uk_to_ordinal_num, uk_on_text), .kind = DIGIT_ORDINAL,
+     MEASURED(uk_measure_ordinal_num, uk_on_text)},
+    {BOTH_FORMS(uk_to_year, uk_on_year), .kind = YEAR,
+     MEASURED(uk_measure_year, uk_on_year)},
 };
 
 const size_t call_count = sizeof calls / sizeof *calls;
@@ -83,20 +106,31 @@ int next_settings(const struct call *call, union settings *settings) {
   return 0;
 }
 
+void set_text(struct request *r, const char *text) {
+  r->input = (const uint8_t *)text;
+  r->input_length = strlen(text);
+  if (r->call->kind == YEAR) r->year = strtoll(text, 0, 10);
+}
+
+void set_code(struct request *r, const char *code) {
+  r->code = (const uint8_t *)code;
+  r->code_length = strlen(code);
+}
+
 void show_call(const struct request *r) {
   printf("yokepear_%s, settings", r->call->name);
   for (int i = 0; i < setting_count(r->call); i++) printf(" %u", r->settings.numbers[i]);
 }
 
 yokepear_answer ask(const struct request *r, uint8_t *out, size_t out_length) {
-  r->call->asked++;
+  r->call->done.asked++;
   return r->call->by_name(r, out, out_length);
 }
 
 yokepear_answer ask_by_number(const struct request *r, uint8_t *out, size_t out_length) {
   struct call *call = r->call;
   const uint32_t *s = r->settings.numbers;
-  call->asked++;
+  call->done.asked++;
   if (call->uk_on_year) return call->uk_on_year(s[0], s[1], s[2], r->year, out, out_length);
   if (call->uk_on_money)
     return call->uk_on_money(s[0], s[1], s[2], r->code, r->code_length, r->input, r->input_length,
@@ -104,4 +138,20 @@ yokepear_answer ask_by_number(const struct request *r, uint8_t *out, size_t out_
   if (call->uk_on_text)
     return call->uk_on_text(s[0], s[1], s[2], r->input, r->input_length, out, out_length);
   return call->fr_on_text(s[0], s[1], s[2], r->input, r->input_length, out, out_length);
+}
+
+yokepear_measure measure(const struct request *r) {
+  r->call->measuring.done.asked++;
+  return r->call->measuring.by_name(r);
+}
+
+yokepear_measure measure_by_number(const struct request *r) {
+  struct measuring *call = &r->call->measuring;
+  const uint32_t *s = r->settings.numbers;
+  call->done.asked++;
+  if (call->uk_on_year) return call->uk_on_year(s[0], s[1], s[2], r->year);
+  if (call->uk_on_money)
+    return call->uk_on_money(s[0], s[1], s[2], r->code, r->code_length, r->input, r->input_length);
+  if (call->uk_on_text) return call->uk_on_text(s[0], s[1], s[2], r->input, r->input_length);
+  return call->fr_on_text(s[0], s[1], s[2], r->input, r->input_length);
 }

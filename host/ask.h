@@ -36,8 +36,30 @@ typedef yokepear_answer uk_year_call(uint32_t, uint32_t, uint32_t, int64_t, void
 typedef yokepear_answer fr_text_call(uint32_t, uint32_t, uint32_t, const void *, size_t, void *,
                                      size_t);
 
+typedef yokepear_measure uk_text_measure(uint32_t, uint32_t, uint32_t, const void *, size_t);
+typedef yokepear_measure uk_money_measure(uint32_t, uint32_t, uint32_t, const void *, size_t,
+                                          const void *, size_t);
+typedef yokepear_measure uk_year_measure(uint32_t, uint32_t, uint32_t, int64_t);
+typedef yokepear_measure fr_text_measure(uint32_t, uint32_t, uint32_t, const void *, size_t);
+
 /* What a spelling call speaks; a reading call reads the same. */
 enum kind { CARDINAL, ORDINAL, DIGIT_ORDINAL, MONEY, YEAR };
+
+/* What was done with a call. */
+struct counts {
+  unsigned long answers, refusals, asked;
+};
+
+/* The call that measures what a spelling call says: its name and its two forms, as below. */
+struct measuring {
+  const char *name;
+  yokepear_measure (*by_name)(const struct request *);
+  uk_text_measure *uk_on_text;
+  uk_money_measure *uk_on_money;
+  uk_year_measure *uk_on_year;
+  fr_text_measure *fr_on_text;
+  struct counts done;
+};
 
 /* A call: its name without the prefix, what it speaks, how it is asked. */
 struct call {
@@ -51,8 +73,8 @@ struct call {
   uk_money_call *uk_on_money;
   uk_year_call *uk_on_year;
   fr_text_call *fr_on_text;
-  /* What was done with it. */
-  unsigned long answers, refusals, asked;
+  struct measuring measuring; /* of a spelling call */
+  struct counts done;
 };
 
 extern struct call calls[];
@@ -77,6 +99,12 @@ uint32_t setting_size(const struct call *call, int setting);
 /* The next settings in order; 0 after the last. */
 int next_settings(const struct call *call, union settings *settings);
 
+/* Makes a text the request's input, and a year's text its year. The text must stay. */
+void set_text(struct request *request, const char *text);
+
+/* Makes a text the request's code. It must stay. */
+void set_code(struct request *request, const char *code);
+
 /* Prints the name of the request's call and its settings. */
 void show_call(const struct request *request);
 
@@ -85,5 +113,9 @@ yokepear_answer ask(const struct request *request, uint8_t *out, size_t out_leng
 
 /* Asks with settings as numbers. */
 yokepear_answer ask_by_number(const struct request *request, uint8_t *out, size_t out_length);
+
+/* Asks the measuring call of the request's spelling call, in the same two forms. */
+yokepear_measure measure(const struct request *request);
+yokepear_measure measure_by_number(const struct request *request);
 
 #endif

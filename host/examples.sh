@@ -4,17 +4,17 @@
 set -euo pipefail
 . "$(dirname "${BASH_SOURCE[0]}")/common.sh"
 
-# block LANGUAGE: README's first block of code in this language; output LANGUAGE: the first block
+# block LANGUAGE N: README's N-th block of code in this language; output LANGUAGE N: the first block
 # without a language behind it.
 block() {
-  awk -v begin="\`\`\`$1" '
-    $0 == begin {in_it = 1; next}
+  awk -v begin="\`\`\`$1" -v n="$2" '
+    $0 == begin && ++found == n {in_it = 1; next}
     in_it && /^```$/ {exit}
     in_it' "$repo/README.md"
 }
 output() {
-  awk -v begin="\`\`\`$1" '
-    $0 == begin {seen = 1; next}
+  awk -v begin="\`\`\`$1" -v n="$2" '
+    $0 == begin && ++found == n {seen = 1; next}
     seen == 1 && /^```$/ {seen = 2; next}
     seen == 2 && /^```$/ {seen = 3; next}
     seen == 3 && /^```$/ {exit}
@@ -37,13 +37,21 @@ prints() {
   exit 1
 }
 
-block c > "$build/readme.c"
-"${compile[@]}" "$build/readme.c" "$archive" -o "$build/readme_c"
-prints readme_c "$(output c)"
-block cpp > "$build/readme.cpp"
-"${CXX:-g++}" -std=c++11 -O2 "${warnings[@]}" "-I$include" "$build/readme.cpp" "$archive" \
-  -o "$build/readme_cpp"
-prints readme_cpp "$(output cpp)"
+# readme LANGUAGE COMPILER..: each of README's blocks in this language.
+readme() {
+  local language=$1 blocks n name
+  shift
+  blocks=$(grep -cx "\`\`\`$language" "$repo/README.md")
+  for ((n = 1; n <= blocks; n++)); do
+    name=readme_${language}_$n
+    block "$language" "$n" > "$build/$name.$language"
+    "$@" "$build/$name.$language" "$archive" -o "$build/$name"
+    prints "$name" "$(output "$language" "$n")"
+  done
+}
+
+readme c "${compile[@]}"
+readme cpp "${CXX:-g++}" -std=c++11 -O2 "${warnings[@]}" "-I$include"
 header_example > "$build/header.c"
 "${compile[@]}" "$build/header.c" "$archive" -o "$build/header_c"
 prints header_c 'сорок дві'

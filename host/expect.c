@@ -14,6 +14,7 @@ enum { LONGEST_INPUT = 70000 };
 static struct block input_block, code_block, out_block;
 static uint8_t *fills[2], *want;
 static const struct request *asking;
+static int is_measuring;
 
 /* What was asked when something went wrong. */
 static void show(const char *what) {
@@ -31,7 +32,8 @@ static void show(const char *what) {
 
 static void fault(int number) {
   (void)number;
-  show("FAULT, a byte outside an input or a buffer was touched");
+  show(is_measuring ? "FAULT, measuring touched a byte outside an input"
+                    : "FAULT, a byte outside an input or a buffer was touched");
   fflush(stdout);
   _exit(1);
 }
@@ -66,6 +68,44 @@ static void differ(const char *what, yokepear_answer got, uint32_t refusal, size
 /* The two forms of a call: settings by name, and as numbers. Both are held to every expectation. */
 static yokepear_answer (*const forms[2])(const struct request *, uint8_t *, size_t) = {
     ask, ask_by_number};
+static yokepear_measure (*const measure_forms[2])(const struct request *) = {
+    measure, measure_by_number};
+
+static void compare_measures(const struct request *r, yokepear_measure figures) {
+  struct measuring *call = &r->call->measuring;
+  for (int form = 0; form < 2; form++) {
+    is_measuring = 1;
+    yokepear_measure got = measure_forms[form](r);
+    is_measuring = 0;
+    if (got.refusal == figures.refusal && got.words == figures.words &&
+        got.length == figures.length)
+      continue;
+    show("DIFFERENCE");
+    printf("  yokepear_%s: answered %u, %u words, %zu bytes, expected %u, %u words, %zu bytes\n",
+           call->name, got.refusal, got.words, got.length, figures.refusal, figures.words,
+           figures.length);
+    exit(1);
+  }
+  if (figures.refusal)
+    call->done.refusals++;
+  else
+    call->done.answers++;
+}
+
+/* What the measuring call must give where the spelling call gives this. */
+static yokepear_measure measure_of(uint32_t refusal, const uint8_t *phrase, size_t length) {
+  yokepear_measure figures = {refusal, 0, 0};
+  if (refusal) return figures;
+  figures.words = 1;
+  for (size_t i = 0; i < length; i++) figures.words += phrase[i] == ' ';
+  figures.length = length;
+  return figures;
+}
+
+static void measure_too(const struct request *r, uint32_t refusal, const uint8_t *phrase,
+                        size_t length) {
+  if (!r->call->reading) compare_measures(r, measure_of(refusal, phrase, length));
+}
 
 /* Asks with a buffer of `room` bytes at `at` of the block; every byte of the block is compared. */
 static void expect_at(const struct request *r, uint32_t refusal, const uint8_t *bytes,
@@ -123,17 +163,18 @@ static void expect(const struct request *r, uint32_t refusal, const uint8_t *byt
     for (size_t i = 0; i < sizeof rooms / sizeof *rooms; i++)
       expect_room(&copy, refusal, bytes, length, rooms[i]);
     expect_null(&copy, refusal, length);
+    measure_too(&copy, refusal, bytes, length);
     asking = 0;
   }
 }
 
 void expect_answer(const struct request *r, const uint8_t *bytes, size_t length) {
-  r->call->answers++;
+  r->call->done.answers++;
   expect(r, 0, bytes, length);
 }
 
 void expect_refusal(const struct request *r, uint32_t refusal) {
-  r->call->refusals++;
+  r->call->done.refusals++;
   expect(r, refusal, 0, 0);
 }
 
@@ -141,6 +182,26 @@ size_t answer_of(const struct request *r, uint8_t out[LARGE]) {
   asking = r;
   yokepear_answer got = ask(r, out, LARGE);
   if (got.refusal || got.length > LARGE) differ("a refusal", got, 0, 0, LARGE);
+  measure_too(r, 0, out, got.length);
   asking = 0;
   return got.length;
+}
+
+void expect_measure(const struct request *r, yokepear_measure figures) {
+  asking = r;
+  compare_measures(r, figures);
+  asking = 0;
+}
+
+void expect_measured(const struct request *r) {
+  uint8_t phrase[LARGE], exact[LARGE];
+  size_t length = answer_of(r, phrase), room = measure(r).length;
+  asking = r;
+  yokepear_answer filled = ask(r, exact, room);
+  if (filled.refusal || filled.length != room || memcmp(exact, phrase, room))
+    differ("a buffer of the length measured", filled, 0, length, room);
+  yokepear_answer cut = ask(r, exact, room - 1);
+  if (cut.refusal != YOKEPEAR_SHORT_BUFFER || cut.length != room)
+    differ("a buffer of a byte less than measured", cut, YOKEPEAR_SHORT_BUFFER, length, room - 1);
+  asking = 0;
 }

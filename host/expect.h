@@ -1,4 +1,7 @@
-/* Asks a call with buffers of many lengths and places, and compares all that it gives back. */
+/*
+ * Asks a call with buffers of many lengths and places, and compares all that it gives back. What a
+ * spelling call must answer its measuring call is held to, without being asked for.
+ */
 #ifndef EXPECT_H
 #define EXPECT_H
 
@@ -18,5 +21,15 @@ void expect_refusal(const struct request *request, uint32_t refusal);
 
 /* The answer in a large buffer, which must not be a refusal; its length. */
 size_t answer_of(const struct request *request, uint8_t out[LARGE]);
+
+/* The measuring call of the request's spelling call must give these figures. */
+void expect_measure(const struct request *request, yokepear_measure figures);
+
+/*
+ * The measuring call must give the figures of what is said in a large buffer, and the phrase must
+ * fill a buffer of the length measured and be refused in one of a byte less. Far faster than
+ * expect_answer, for many requests.
+ */
+void expect_measured(const struct request *request);
 
 #endif

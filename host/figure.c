@@ -4,8 +4,6 @@
 #include <stdlib.h>
 #include <string.h>
 
-enum { DIGITS = 3 };
-
 struct figure figure_of(const char *digits, int negative) {
   struct figure f = {0};
   size_t length = strlen(digits);
@@ -72,9 +70,13 @@ size_t length_asked(const struct request *request, const struct figure *f) {
   struct request r = *request;
   set_figure(&r, f, text);
   yokepear_answer answer = ask(&r, 0, 0);
-  if (answer.refusal == YOKEPEAR_SHORT_BUFFER) return answer.length;
+  yokepear_measure measured = measure(&r);
+  if (answer.refusal == YOKEPEAR_SHORT_BUFFER && !measured.refusal &&
+      measured.length == answer.length)
+    return answer.length;
   printf("DIFFERENCE: ");
   show_call(&r);
-  printf(", %s\n  asked without a buffer: answered %u %zu\n", text, answer.refusal, answer.length);
+  printf(", %s\n  asked without a buffer: answered %u %zu, measured %u %zu\n", text, answer.refusal,
+         answer.length, measured.refusal, measured.length);
   exit(1);
 }

@@ -61,6 +61,9 @@ settings_in_place() {
   only_swapped 'the settings of the other language' \
     'yokepear_uk s = made; (void)yokepear_uk_to_cardinal_in(s, "1", 1, 0, 0);' \
     'yokepear_uk s = made; (void)yokepear_fr_to_cardinal_in(s, "1", 1, 0, 0);' "$@"
+  only_swapped 'the settings of the other language, where a phrase is measured' \
+    'yokepear_fr s = french; (void)yokepear_fr_measure_ordinal_in(s, "1", 1);' \
+    'yokepear_fr s = french; (void)yokepear_uk_measure_ordinal_in(s, "1", 1);' "$@"
 }
 # The usual warnings tell it.
 for compiler in "${c_compilers[@]}"; do

@@ -17,9 +17,14 @@ static ucontext_t here, there;
 static const struct request *asking;
 static size_t out_length;
 static yokepear_answer answer;
+static yokepear_measure extent;
 
 /* On numbers: that is the library's own call, with nothing of the header between. */
-static void run(void) { answer = ask_by_number(asking, out, out_length); }
+static void ask_it(void) { answer = ask_by_number(asking, out, out_length); }
+static void measure_it(void) { extent = measure_by_number(asking); }
+
+/* Which of them runs. */
+static void (*run)(void) = ask_it;
 
 /* Runs the request on a stack painted with this byte; how many bytes were in use. */
 static size_t painted(const struct request *r, uint8_t paint) {
@@ -60,12 +65,37 @@ static yokepear_answer no_year(uint32_t a, uint32_t b, uint32_t c, int64_t year,
   return (yokepear_answer){0, 0};
 }
 
+/* The same of measuring calls. */
+static yokepear_measure no_text_measure(uint32_t a, uint32_t b, uint32_t c, const void *s,
+                                        size_t n) {
+  (void)a, (void)b, (void)c, (void)s, (void)n;
+  return (yokepear_measure){0, 0, 0};
+}
+static yokepear_measure no_money_measure(uint32_t a, uint32_t b, uint32_t c, const void *k,
+                                         size_t m, const void *s, size_t n) {
+  (void)a, (void)b, (void)c, (void)k, (void)m, (void)s, (void)n;
+  return (yokepear_measure){0, 0, 0};
+}
+static yokepear_measure no_year_measure(uint32_t a, uint32_t b, uint32_t c, int64_t year) {
+  (void)a, (void)b, (void)c, (void)year;
+  return (yokepear_measure){0, 0, 0};
+}
+
+static struct measuring measuring_nothing(struct measuring call) {
+  if (call.uk_on_text) call.uk_on_text = no_text_measure;
+  if (call.uk_on_money) call.uk_on_money = no_money_measure;
+  if (call.uk_on_year) call.uk_on_year = no_year_measure;
+  if (call.fr_on_text) call.fr_on_text = no_text_measure;
+  return call;
+}
+
 static size_t asking_alone(const struct call *call) {
   struct call nothing = *call;
   if (call->uk_on_text) nothing.uk_on_text = no_text;
   if (call->uk_on_money) nothing.uk_on_money = no_money;
   if (call->uk_on_year) nothing.uk_on_year = no_year;
   if (call->fr_on_text) nothing.fr_on_text = no_text;
+  nothing.measuring = measuring_nothing(call->measuring);
   struct request r = {0};
   r.call = &nothing;
   return used(&r, 0) - ADDRESS;
@@ -73,8 +103,9 @@ static size_t asking_alone(const struct call *call) {
 
 static size_t deeper(size_t a, size_t b) { return a > b ? a : b; }
 
-/* The request with room and without. */
+/* The request with room and without; a measuring call has none. */
 static size_t with_rooms(struct request r) {
+  if (run == measure_it) return used(&r, 0);
   return deeper(used(&r, LARGE), deeper(used(&r, 0), used(&r, 1)));
 }
 
@@ -103,9 +134,7 @@ static void spell_input(struct request *r, uint8_t *phrase) {
 
 static size_t with_text(struct request r, const char *text) {
   uint8_t phrase[LARGE];
-  r.input = (const uint8_t *)text;
-  r.input_length = strlen(text);
-  r.year = strtoll(text, 0, 10);
+  set_text(&r, text);
   if (r.call->reading) spell_input(&r, phrase);
   return with_rooms(r);
 }
@@ -142,8 +171,7 @@ static size_t deepest_of(struct call *call) {
   struct request r = {0};
   size_t most = 0;
   r.call = call;
-  r.code = (const uint8_t *)"ILS";
-  r.code_length = 3;
+  set_code(&r, "ILS");
   do most = deeper(most, with_texts(r));
   while (next_settings(call, &r.settings));
   static const char *const long_words[] = {"один ", "сто ", "un ", "cent ", "1", "-"};
@@ -152,13 +180,20 @@ static size_t deepest_of(struct call *call) {
   return most - asking_alone(call);
 }
 
+static size_t show_deepest(struct call *call, void (*runs)(void), const char *name) {
+  run = runs;
+  size_t bytes = deepest_of(call);
+  printf("yokepear_%s: %zu bytes of stack\n", name, bytes);
+  return bytes;
+}
+
 /* An optional argument is a limit in bytes: the program ends with 1 if a call reaches it. */
 int main(int argc, char **argv) {
   size_t most = 0, limit = argc > 1 ? (size_t)strtoul(argv[1], 0, 10) : STACK;
   for (size_t i = 0; i < call_count; i++) {
-    size_t bytes = deepest_of(&calls[i]);
-    printf("yokepear_%s: %zu bytes of stack\n", calls[i].name, bytes);
-    most = deeper(most, bytes);
+    struct call *call = &calls[i];
+    most = deeper(most, show_deepest(call, ask_it, call->name));
+    if (!call->reading) most = deeper(most, show_deepest(call, measure_it, call->measuring.name));
   }
   printf("deepest: %zu bytes of stack\n", most);
   return most < limit ? 0 : 1;

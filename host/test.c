@@ -4,6 +4,11 @@
 #include "expect.h"
 #include "tests.h"
 
+static void show_counts(const char *name, const struct counts *done) {
+  printf("yokepear_%s: %lu answers, %lu refusals, asked %lu times\n", name, done->answers,
+         done->refusals, done->asked);
+}
+
 int main(int argc, char **argv) {
   if (argc != 2) {
     fprintf(stderr, "usage: test TABLE\n");
@@ -15,10 +20,15 @@ int main(int argc, char **argv) {
   test_texts();
   test_codes();
   test_phrases();
+  test_measures();
   test_sizes();
-  for (size_t i = 0; i < call_count; i++)
-    printf("yokepear_%s: %lu answers, %lu refusals, asked %lu times\n", calls[i].name,
-           calls[i].answers, calls[i].refusals, calls[i].asked);
-  printf("%zu calls as expected\n", call_count);
+  size_t measuring = 0;
+  for (size_t i = 0; i < call_count; i++) {
+    show_counts(calls[i].name, &calls[i].done);
+    if (calls[i].reading) continue;
+    show_counts(calls[i].measuring.name, &calls[i].measuring.done);
+    measuring++;
+  }
+  printf("%zu calls as expected\n", call_count + measuring);
   return 0;
 }

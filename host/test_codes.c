@@ -9,20 +9,10 @@ static const char *const unknown[] = {
     "DOLLARS", "PESOS", "RIYALS", "XXX", "AAA", "ZZZ", "980", "\xd0\xa3\xd0\x90\xd0\x93", "\xff",
 };
 
-static void set_code(struct request *r, const char *code) {
-  r->code = (const uint8_t *)code;
-  r->code_length = strlen(code);
-}
-
-static void set_input(struct request *r, const char *input) {
-  r->input = (const uint8_t *)input;
-  r->input_length = strlen(input);
-}
-
 /* A known code: the amount is spoken, and read back if there is a call that reads. */
 static void known_code(struct request r, const char *amount) {
   uint8_t phrase[LARGE];
-  set_input(&r, amount);
+  set_text(&r, amount);
   size_t length = answer_of(&r, phrase);
   expect_answer(&r, phrase, length);
   r.call = reading_call(r.call);
@@ -37,7 +27,7 @@ static void unknown_code(struct request r) {
   static const char *const inputs[] = {"1", "007", "", "-1",
                                        "\xd0\xbe\xd0\xb4\xd0\xbd\xd0\xb0"};
   for (size_t i = 0; i < sizeof inputs / sizeof *inputs; i++) {
-    set_input(&r, inputs[i]);
+    set_text(&r, inputs[i]);
     expect_refusal(&r, YOKEPEAR_BAD_CODE);
   }
 }

@@ -35,8 +35,7 @@ static void test_names(void) {
     struct request r = {0};
     r.call = find_call(named[i].call);
     r.settings = named[i].settings;
-    r.input = (const uint8_t *)named[i].text;
-    r.input_length = strlen(named[i].text);
+    set_text(&r, named[i].text);
     expect_answer(&r, (const uint8_t *)named[i].phrase, strlen(named[i].phrase));
   }
 }

@@ -86,8 +86,7 @@ void test_phrases(void) {
     struct request r = {0};
     r.call = &calls[i];
     if (!r.call->reading) continue;
-    r.code = (const uint8_t *)"UAH";
-    r.code_length = 3;
+    set_code(&r, "UAH");
     refused_list(&r, ukrainian, sizeof ukrainian / sizeof *ukrainian);
     refused_list(&r, french, sizeof french / sizeof *french);
     if (r.call->kind == MONEY) refused_list(&r, money, sizeof money / sizeof *money);

@@ -7,10 +7,6 @@
 #include "longest.h"
 #include "tests.h"
 
-#define NINES_33 "999999999999999999999999999999999"
-#define NINES_66 NINES_33 NINES_33
-#define NINES_102 NINES_66 NINES_33 "999"
-
 enum { SAMPLES = 100 };
 
 /*
@@ -142,11 +138,6 @@ static void find_in_settings(const struct size *size, struct request r, struct r
   } while (next_settings(r.call, &r.settings));
 }
 
-static void set_code(struct request *r, const char *code) {
-  r->code = (const uint8_t *)code;
-  r->code_length = strlen(code);
-}
-
 static void find_in_currencies(const struct size *size, struct request r, struct record *record) {
   for (size_t i = 0; i < code_count; i++) {
     set_code(&r, codes[i]);
@@ -191,8 +182,7 @@ static void refuse_longer(const struct size *size, struct request r) {
   int zeros = (int)strlen(size->limit);
   snprintf(text, sizeof text, "%s1%0*d%s", size->below_zero ? "-" : "", zeros, 0,
            r.call->kind == MONEY ? ".01" : "");
-  r.input = (const uint8_t *)text;
-  r.input_length = strlen(text);
+  set_text(&r, text);
   expect_refusal(&r, YOKEPEAR_TOO_LARGE);
 }
 

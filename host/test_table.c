@@ -23,11 +23,6 @@ static char *word(char **rest, const char *line) {
   return start;
 }
 
-static void set_input(struct request *r, const char *bytes) {
-  r->input = (const uint8_t *)bytes;
-  r->input_length = strlen(bytes);
-}
-
 /* Spells the text; then reads the phrase back if there is a call that reads it. */
 static void test_line(char *line) {
   struct request r = {0};
@@ -37,20 +32,14 @@ static void test_line(char *line) {
   if (!r.call) stop("there is no such call", name);
   for (int i = 0; i < TABLE_SETTINGS; i++)
     r.settings.numbers[i] = (uint32_t)strtoul(word(&rest, line), 0, 10);
-  if (r.call->kind == MONEY) {
-    r.code = (const uint8_t *)word(&rest, line);
-    r.code_length = strlen((const char *)r.code);
-  }
+  if (r.call->kind == MONEY) set_code(&r, word(&rest, line));
   const char *text = word(&rest, line);
   if (strcmp(word(&rest, line), "->")) stop("the arrow is missing", line);
-  if (r.call->kind == YEAR)
-    r.year = strtoll(text, 0, 10);
-  else
-    set_input(&r, text);
+  set_text(&r, text);
   expect_answer(&r, (const uint8_t *)rest, strlen(rest));
   r.call = reading_call(r.call);
   if (!r.call) return;
-  set_input(&r, rest);
+  set_text(&r, rest);
   expect_answer(&r, (const uint8_t *)text, strlen(text));
 }
 

@@ -1,5 +1,4 @@
 /* Texts of every shape in every setting: admitted ones come back, the others are refused. */
-#include <stdlib.h>
 #include <string.h>
 
 #include "expect.h"
@@ -11,11 +10,8 @@ enum { LONGEST_TEXT = 106 };
 static struct request on_text(struct call *call, const char *text) {
   struct request r = {0};
   r.call = call;
-  r.code = (const uint8_t *)"UAH";
-  r.code_length = 3;
-  r.input = (const uint8_t *)text;
-  r.input_length = strlen(text);
-  if (call->kind == YEAR) r.year = strtoll(text, 0, 10);
+  set_code(&r, "UAH");
+  set_text(&r, text);
   return r;
 }
 

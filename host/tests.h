@@ -17,6 +17,9 @@ void test_codes(void);
 /* Phrases that no setting admits. */
 void test_phrases(void);
 
+/* Lengths and words of phrases, by hand and over many figures; refusals in their order. */
+void test_measures(void);
+
 /* The header's sizes, by the longest phrase and the longest text of each kind. */
 void test_sizes(void);
 

@@ -33,8 +33,9 @@
  *   The answer stands at the front of `out`; the bytes after it are left as they were. A refusal
  *   changes nothing.
  *   A buffer of the YOKEPEAR_..._PHRASE or YOKEPEAR_..._TEXT bytes given with a call is always long
- *   enough, and the longest answer fills it. For an exact size, ask with out_length 0: refusal 7
- *   reports the length needed.
+ *   enough, and the longest answer fills it. For an exact size, and for the count of words, ask the
+ *   measuring call yokepear_.._measure_.. first, which is lent no buffer; refusal 7 reports the
+ *   length needed too.
  */
 #ifndef YOKEPEAR_H
 #define YOKEPEAR_H
@@ -50,7 +51,7 @@ extern "C" {
 
 /* While the first is 0, a step of the second may add settings to calls that take numbers. */
 #define YOKEPEAR_VERSION_MAJOR 0
-#define YOKEPEAR_VERSION_MINOR 2
+#define YOKEPEAR_VERSION_MINOR 3
 #define YOKEPEAR_VERSION_PATCH 0
 
 #define YOKEPEAR_TEXT_OF_(number) #number
@@ -63,9 +64,9 @@ extern "C" {
 /* ---- Answers and refusals ------------------------------------------------------------------- */
 
 /*
- * What a call answers. `refusal` is 0 and `length` the answer's length in bytes; or `refusal` is
- * the number of one and `length` is 0, except that YOKEPEAR_SHORT_BUFFER comes with the length
- * needed.
+ * What a spelling or a reading call answers. `refusal` is 0 and `length` the answer's length in
+ * bytes; or `refusal` is the number of one and `length` is 0, except that YOKEPEAR_SHORT_BUFFER
+ * comes with the length needed.
  */
 typedef struct {
   uint32_t refusal;
@@ -73,8 +74,22 @@ typedef struct {
 } yokepear_answer;
 
 /*
+ * What a measuring call answers about the phrase that its spelling call says. `refusal` is 0,
+ * `length` the phrase's length in bytes and `words` the count of its words; or `refusal` is the
+ * number of one, and both are 0.
+ * A word is what stands between spaces: `deux cents` is two; `quatre-vingts`, `42-го` and every
+ * reformed French phrase, whose joiners are hyphens, are one; the `до н.е.` of a year counts as
+ * two. No phrase is empty, so there is at least one word.
+ */
+typedef struct {
+  uint32_t refusal;
+  uint32_t words;
+  size_t length;
+} yokepear_measure;
+
+/*
  * Refusals. Where several apply, the one with the lowest number is given.
- * Spelling never gives 6; reading gives only 1, 2, 6 and 7.
+ * Spelling never gives 6, measuring neither 6 nor 7; reading gives only 1, 2, 6 and 7.
  */
 enum {
   YOKEPEAR_DONE = 0,
@@ -186,6 +201,17 @@ static inline yokepear_answer yokepear_uk_to_cardinal_in(yokepear_uk settings,
   return yokepear_uk_to_cardinal(YOKEPEAR_UK_(settings), text, text_length, out, out_length);
 }
 
+/* Measures the phrase that yokepear_uk_to_cardinal says. Refuses by 1, 3, 5. */
+yokepear_measure yokepear_uk_measure_cardinal(uint32_t gender, uint32_t number,
+                                              uint32_t grammatical_case,
+                                              const void *text, size_t text_length);
+
+static inline yokepear_measure yokepear_uk_measure_cardinal_in(yokepear_uk settings,
+                                                               const void *text,
+                                                               size_t text_length) {
+  return yokepear_uk_measure_cardinal(YOKEPEAR_UK_(settings), text, text_length);
+}
+
 /*
  * Reads a phrase and writes its number text: exactly the phrases that yokepear_uk_to_cardinal
  * says in the same settings are read, every other one is refused. Refuses by 1, 6, 7.
@@ -222,6 +248,17 @@ static inline yokepear_answer yokepear_uk_to_ordinal_in(yokepear_uk settings,
   return yokepear_uk_to_ordinal(YOKEPEAR_UK_(settings), text, text_length, out, out_length);
 }
 
+/* Measures the phrase that yokepear_uk_to_ordinal says. Refuses by 1, 3, 4, 5. */
+yokepear_measure yokepear_uk_measure_ordinal(uint32_t gender, uint32_t number,
+                                             uint32_t grammatical_case,
+                                             const void *text, size_t text_length);
+
+static inline yokepear_measure yokepear_uk_measure_ordinal_in(yokepear_uk settings,
+                                                              const void *text,
+                                                              size_t text_length) {
+  return yokepear_uk_measure_ordinal(YOKEPEAR_UK_(settings), text, text_length);
+}
+
 /*
  * Writes a digit ordinal: 42, masculine, singular, genitive is `42-го`. The number is not negative
  * and at most 340282366920938463463374607431768211455. In the plural `gender` has no effect.
@@ -238,6 +275,17 @@ static inline yokepear_answer yokepear_uk_to_ordinal_num_in(yokepear_uk settings
   return yokepear_uk_to_ordinal_num(YOKEPEAR_UK_(settings), text, text_length, out, out_length);
 }
 
+/* Measures the phrase that yokepear_uk_to_ordinal_num says. Refuses by 1, 3, 4, 5. */
+yokepear_measure yokepear_uk_measure_ordinal_num(uint32_t gender, uint32_t number,
+                                                 uint32_t grammatical_case,
+                                                 const void *text, size_t text_length);
+
+static inline yokepear_measure yokepear_uk_measure_ordinal_num_in(yokepear_uk settings,
+                                                                  const void *text,
+                                                                  size_t text_length) {
+  return yokepear_uk_measure_ordinal_num(YOKEPEAR_UK_(settings), text, text_length);
+}
+
 /*
  * Speaks a year, any int64_t: -43, singular, genitive is `сорок третього року до н.е.`; year 0 and
  * all years below it end in `до н.е.`. `gender` has no effect on years. Refuses by 1 and 7.
@@ -248,6 +296,14 @@ yokepear_answer yokepear_uk_to_year(uint32_t gender, uint32_t number, uint32_t g
 static inline yokepear_answer yokepear_uk_to_year_in(yokepear_uk settings, int64_t year,
                                                      void *out, size_t out_length) {
   return yokepear_uk_to_year(YOKEPEAR_UK_(settings), year, out, out_length);
+}
+
+/* Measures the phrase that yokepear_uk_to_year says. Refuses by 1. */
+yokepear_measure yokepear_uk_measure_year(uint32_t gender, uint32_t number,
+                                          uint32_t grammatical_case, int64_t year);
+
+static inline yokepear_measure yokepear_uk_measure_year_in(yokepear_uk settings, int64_t year) {
+  return yokepear_uk_measure_year(YOKEPEAR_UK_(settings), year);
 }
 
 /* ---- Ukrainian money ----------------------------------------------------------------------- */
@@ -276,6 +332,19 @@ static inline yokepear_answer yokepear_uk_to_currency_in(yokepear_uk settings,
                                                          void *out, size_t out_length) {
   return yokepear_uk_to_currency(YOKEPEAR_UK_(settings), code, code_length, text, text_length, out,
                                  out_length);
+}
+
+/* Measures the phrase that yokepear_uk_to_currency says. Refuses by 1, 2, 3, 4, 5. */
+yokepear_measure yokepear_uk_measure_currency(uint32_t gender, uint32_t number,
+                                              uint32_t grammatical_case,
+                                              const void *code, size_t code_length,
+                                              const void *text, size_t text_length);
+
+static inline yokepear_measure yokepear_uk_measure_currency_in(yokepear_uk settings,
+                                                               const void *code, size_t code_length,
+                                                               const void *text,
+                                                               size_t text_length) {
+  return yokepear_uk_measure_currency(YOKEPEAR_UK_(settings), code, code_length, text, text_length);
 }
 
 /*
@@ -317,6 +386,16 @@ static inline yokepear_answer yokepear_fr_to_cardinal_in(yokepear_fr settings,
   return yokepear_fr_to_cardinal(YOKEPEAR_FR_(settings), text, text_length, out, out_length);
 }
 
+/* Measures the phrase that yokepear_fr_to_cardinal says. Refuses by 1, 3, 5. */
+yokepear_measure yokepear_fr_measure_cardinal(uint32_t feminine, uint32_t reformed, uint32_t region,
+                                              const void *text, size_t text_length);
+
+static inline yokepear_measure yokepear_fr_measure_cardinal_in(yokepear_fr settings,
+                                                               const void *text,
+                                                               size_t text_length) {
+  return yokepear_fr_measure_cardinal(YOKEPEAR_FR_(settings), text, text_length);
+}
+
 /*
  * Reads a phrase and writes its number text: exactly the phrases that yokepear_fr_to_cardinal
  * says in the same settings are read, every other one is refused. Refuses by 1, 6, 7.
@@ -348,6 +427,16 @@ static inline yokepear_answer yokepear_fr_to_ordinal_in(yokepear_fr settings,
                                                         const void *text, size_t text_length,
                                                         void *out, size_t out_length) {
   return yokepear_fr_to_ordinal(YOKEPEAR_FR_(settings), text, text_length, out, out_length);
+}
+
+/* Measures the phrase that yokepear_fr_to_ordinal says. Refuses by 1, 3, 4, 5. */
+yokepear_measure yokepear_fr_measure_ordinal(uint32_t feminine, uint32_t reformed, uint32_t region,
+                                             const void *text, size_t text_length);
+
+static inline yokepear_measure yokepear_fr_measure_ordinal_in(yokepear_fr settings,
+                                                              const void *text,
+                                                              size_t text_length) {
+  return yokepear_fr_measure_ordinal(YOKEPEAR_FR_(settings), text, text_length);
 }
 
 /*

@@ -9,6 +9,7 @@ import sys
 import generated
 
 LONGER = 40  # than any text: words/src/lib.rt has the same number
+PAD = b'_'  # brings the next text to an even byte; no space, since the bytes before the texts with spaces are to have none
 
 
 def spec(path):
@@ -71,7 +72,7 @@ def pool_of(texts):
         for t in left:
             shared[t, joined], shared[joined, t] = overlap(t, joined), overlap(joined, t)
         left.append(joined)
-    return b''.join(t if len(t) % 2 == 0 else t + b' ' for t in left)
+    return b''.join(t if len(t) % 2 == 0 else t + PAD for t in left)
 
 
 def flat(item):
@@ -79,13 +80,22 @@ def flat(item):
 
 
 class Pool:
-    """A pool of texts, and of plurals: texts of which a plural with `s` is wanted too, at the same place."""
+    """A pool of texts, and of plurals: texts of which a plural with `s` is wanted too, at the same place. Texts with spaces stand last, behind
+    `unspaced` bytes that have none."""
     def __init__(self, texts, common, plurals=()):
         self.plurals = set(plurals)
         wanted = [text + 's' if text in self.plurals else text for text in texts]
         common = [text + 's' if text in self.plurals else text for text in common]
         self.bytes = pool_of(common)
-        self.bytes += pool_of([text for text in wanted if start_in(self.bytes, text.encode()) < 0])
+        self.bytes += pool_of([text for text in wanted if ' ' not in text and start_in(self.bytes, text.encode()) < 0])
+        self.unspaced = len(self.bytes)
+        self.bytes += pool_of([text for text in wanted if ' ' in text])
+        assert b' ' not in self.bytes[:self.unspaced]
+
+    def counts(self):
+        """How many spaces stand before each byte behind the unspaced ones, and before the end."""
+        rest = self.bytes[self.unspaced:]
+        return bytes(rest[:i].count(b' ') for i in range(len(rest) + 1))
 
     def place(self, text):
         if text == '':
@@ -157,7 +167,7 @@ def byte_string(data):
     lines = ['']
     for b in data:
         # a space at the front of a line would be passed over
-        shown = chr(b) if b < 128 and (b != 32 or lines[-1]) else '\\x%02x' % b
+        shown = chr(b) if 32 <= b < 128 and (b != 32 or lines[-1]) else '\\x%02x' % b
         if len(lines[-1] + shown) > 96:
             lines.append('')
             shown = shown if b != 32 else '\\x20'
@@ -165,9 +175,20 @@ def byte_string(data):
     return '\\\n    '.join(lines)
 
 
-def pool_source(head, pool):
-    size = len(pool.bytes)
-    return '%s\npub const SIZE: usize = %d;\n\npub const POOL: [u8; SIZE] =\n    *b"%s";\n' % (head, size, byte_string(pool.bytes))
+def byte_constant(name, size, data):
+    line = 'pub const %s: [u8; %s] =' % (name, size)
+    text = '*b"%s";' % byte_string(data)
+    return line + (' ' if len(line + text) < 100 else '\n    ') + text + '\n'
+
+
+def pool_source(head, pool, measured):
+    sizes = 'pub const SIZE: usize = %d;\n' % len(pool.bytes)
+    if measured:
+        unspaced = 'SIZE' if pool.unspaced == len(pool.bytes) else str(pool.unspaced)
+        sizes += '\n// How many of its bytes, from the first on, have no space among them; how many stand before each of the others, and before its end.\n'
+        sizes += 'pub const UNSPACED: usize = %s;\n\n' % unspaced
+        sizes += byte_constant('COUNTS', str(len(pool.counts())), pool.counts())
+    return '%s\n%s\n%s' % (head, sizes, byte_constant('POOL', 'SIZE', pool.bytes))
 
 
 def pool_spec(head, name, pool):
@@ -251,9 +272,10 @@ def outputs():
     for crate, what, found in kinds:
         yield '%s/src/places.rt' % crate, constants('// The places of the texts of %s, table by table. Made by tools/gen_words.py.\n' % what, found)
         yield '%s/proofs/Listed.antt' % crate, lists("-- The code's tables of places as lists. Made by tools/gen_words.py.\n", found)
-    for crate, name, what, pool in [('uk', 'ukPool', 'The Ukrainian texts', UK_POOL), ('uk_ordinal', 'shortPool', 'The endings of digit ordinals', SHORT_POOL),
-                                    ('fr', 'frPool', 'The French texts', FR_POOL)]:
-        yield '%s/src/pool.rt' % crate, pool_source('// %s, those that overlap sharing their bytes. Made by tools/gen_words.py.' % what, pool)
+    for crate, name, what, pool, measured in [('uk', 'ukPool', 'The Ukrainian texts', UK_POOL, True),
+                                              ('uk_ordinal', 'shortPool', 'The endings of digit ordinals', SHORT_POOL, False),
+                                              ('fr', 'frPool', 'The French texts', FR_POOL, True)]:
+        yield '%s/src/pool.rt' % crate, pool_source('// %s, those that overlap sharing their bytes. Made by tools/gen_words.py.' % what, pool, measured)
         yield '%s/specs/Pool.antt' % crate, pool_spec('-- %s, those that overlap sharing their bytes: it ties the code to the tables. Made by tools/gen_words.py.' % what, name, pool)
 
 

@@ -1,9 +1,10 @@
 -- Bytes divided at each of one byte: a line into words, an input into lines.
 -- Assumes nothing.
-use Prim.Native.Nat.{ℕ}
+use Prim.Native.Nat.{ℕ, _<_}
 use mathlib.Core.Bool.{cond}
 use mathlib.Core.List.{List, [], _∷_}
 use lib.Dec.{eqb}
+use lib.ListN.{length}
 
 -- a byte put before the first of some parts
 abbrev pub toFirst : ℕ → List (List ℕ) → List (List ℕ)
@@ -14,3 +15,8 @@ toFirst b (l ∷ ls) = (b ∷ l) ∷ ls
 unfoldable pub divided : ℕ → List ℕ → List (List ℕ)
 divided d [] = [] ∷ []
 divided d (b ∷ s) = cond (eqb b d) ([] ∷ divided d s) (toFirst b (divided d s))
+
+-- every one of some parts has a byte
+abbrev pub AllSome : List (List ℕ) → Type 0
+AllSome [] = Unit
+AllSome (w ∷ ws) = (0 < length w) × AllSome ws

@@ -8,6 +8,7 @@ pub mod Join
 pub mod Divide
 pub mod Decides
 pub mod Answer
+pub mod Measure
 pub mod Reading
 pub mod Room
 pub mod Claim

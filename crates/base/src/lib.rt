@@ -1,8 +1,12 @@
-// What every crate shares: a call's answer, casts, and loads of several bytes.
+// What every crate shares: a call's answer, a measure, casts, and loads of several bytes.
 pub mod loads; // loads.rt: two, four and eight bytes at a time
 
 ghost use mathlib.Core.Path.{_≡_};
-ghost use Prim.Native.Nat.{_<_};
+ghost use mathlib.Core.List.{List};
+ghost use Prim.Native.Nat.{ℕ, _<_};
+ghost use lib.ListN.{length as lengthOf};
+ghost use Rattle.base.specs.Measure.{spaces as spacesIn, measureOf, measured};
+ghost use Rattle.base.specs.Answer.{Spelling};
 
 // A call's answer: 0 and the answer's length, or a refusal's number and 0, or for 7 the length needed.
 #[repr(C)]
@@ -31,6 +35,38 @@ pub fn refused(number: u32) -> Answer
     ensures { λ r. ⌜ (r .number ≡ number) × (r .length ≡ 0) ⌝ }
 {
     Answer { number, length: 0 }
+}
+
+// What a measuring call answers: 0 with the phrase's words and its length in bytes, or a refusal's number and no more.
+#[repr(C)]
+pub struct Measure {
+    pub refusal: u32,
+    pub words: u32,
+    pub length: usize,
+}
+
+// The measure of a phrase of so many spaces and this length.
+pub fn measure_of(spaces: u32, length: usize) -> Measure
+    requires { ⌜ spaces < 4294967295 ⌝ }
+    ensures { λ r. ⌜ ((phrase : List ℕ) → spaces ≡ spacesIn phrase → length ≡ lengthOf phrase → r ≡ measureOf phrase) ⌝ }
+{
+    Measure {
+        refusal: 0,
+        words: spaces + 1,
+        length,
+    }
+}
+
+// The measure of a call that is refused.
+pub fn unmeasured(refusal: u32) -> Measure
+    requires { ⌜ 0 < refusal ⌝ }
+    ensures { λ r. ⌜ ((call : Spelling) → call .refusal ≡ refusal → r ≡ measured call) ⌝ }
+{
+    Measure {
+        refusal,
+        words: 0,
+        length: 0,
+    }
 }
 
 // A byte as a number: a cast of its own, so that no caller has to show that it fits.

@@ -14,10 +14,8 @@ use Rattle.figures.specs.Judging.{judged}
 use Rattle.figures.specs.Value.{NumberMeans}
 use Rattle.figures.specs.Written.{signedDecimal}
 use Rattle.figures.proofs.Laws.Digits.{thousand}
-use Rattle.figures.proofs.Laws.Groups.{hold}
-use Rattle.figures.proofs.Laws.Plain.{plain-digits}
-use Rattle.figures.proofs.Laws.Refusals.{passed, none-refused}
-use Rattle.figures.proofs.Laws.Sign.{formed-unsigned, zero-plain, number-size, number-is}
+use Rattle.figures.proofs.Laws.Refusals.{passed, none-refused, passed-held}
+use Rattle.figures.proofs.Laws.Sign.{zero-plain, number-size, number-is}
 use Rattle.cardinals.specs.Lexicon.{Lexicon}
 use Rattle.cardinals.specs.Cardinal.{cardinalPhrase}
 use Rattle.cardinals.specs.Grammar.{Says}
@@ -45,7 +43,7 @@ module _ {Says : List ℕ → Bool → ℕ → Type 0} {phrase : Bool → ℕ �
   spelled-means : (t : List ℕ) → AdmittedText t → NumberMeans (Says (textPhrase t)) t
   spelled-means t a =
       let p = passed (wellFormed t) (isRefused (negative t)) (length (unsigned t)) (orders * 3) a in
-      let h = hold orders (unsigned t) (plain-digits (unsigned t) (formed-unsigned t (p .formed))) (p .within) in
+      let h = passed-held orders t p in
       record {
         minus = negative t;
         magnitude = value (unsigned t);

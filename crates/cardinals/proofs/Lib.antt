@@ -2,3 +2,4 @@ pub mod Numbers
 pub mod Arrays
 pub mod Guessed
 pub mod Inverse
+pub mod Words

@@ -4,3 +4,4 @@ pub mod Tables
 pub mod Stems
 pub mod Deciders
 pub mod Ordinals
+pub mod Words

@@ -13,8 +13,8 @@ use Rattle.base.specs.Join.{Word, spacedBy, joinedBy}
 use Rattle.base.specs.Signs.{space, hyphen}
 use Rattle.settings.specs.declared.Settings.{Settings}
 use Rattle.cardinals.specs.Cardinal.{cardinalWords, cardinalPhrase}
-use Rattle.cardinals.specs.Grammar.{Falling, end, skip, group, Sentence, nought, unmarked, marked}
 use Rattle.cardinals.proofs.Numbers.{sentence, spelled}
+use Rattle.cardinals.proofs.Words.{GroupsSome, words-some}
 use Rattle.fr.specs.Rules.{isReformed, isMille, frenchJoiner, hundredWords, tensWords, numberWords, scaleWords, frenchGroup, withoutE, nth, nthWords, french}
 use Rattle.fr.specs.Ordinal.{nthOf, nthPhrase}
 use Rattle.fr.specs.Grammar.{NthSentence, first, later, SaysNth}
@@ -52,11 +52,11 @@ joiner-other S = go (isReformed S)
     go false e = omega arith
 
 module _ (S : Settings) where
-  -- a group above 0 has words
-  group-some : (k g : ℕ) → 0 < g → g < 1000 → 0 < length (frenchGroup S k g)
-  unfolding frenchGroup scaleWords hundredWords tensWords
-  group-some (suc k) g a b = rw (length-append (cond (isMille (suc k) && eqb g 1) [] (numberWords S (suc k) g)) (scaleWords (suc k) g)) (omega arith)
-  group-some zero g a b = rw (append-nil (numberWords S 0 g)) (go (g / 100 % 10) (g / 10 % 10) (g % 10) refl refl refl)
+  -- a group above 0 has words, and a cardinal
+  pub groups-some : GroupsSome (french S)
+  unfolding french frenchGroup scaleWords hundredWords tensWords
+  groups-some (suc k) g a b = rw (length-append (cond (isMille (suc k) && eqb g 1) [] (numberWords S (suc k) g)) (scaleWords (suc k) g)) (omega arith)
+  groups-some zero g a b = rw (append-nil (numberWords S 0 g)) (go (g / 100 % 10) (g / 10 % 10) (g % 10) refl refl refl)
     where
       go : (h t u : ℕ) → g / 100 % 10 ≡ h → g / 10 % 10 ≡ t → g % 10 ≡ u → 0 < length (hundredWords 0 h (g % 100) ++ tensWords S 0 t u)
       go zero zero zero p q r = absurd (omega (arith, p, q, r))
@@ -67,20 +67,9 @@ module _ (S : Settings) where
       go (suc zero) t u p q r = omega arith
       go (suc (suc h)) t u p q r = omega arith
 
-  falling-some : {k : ℕ} {ws : List Word} {n : ℕ} → Falling (french S) k ws n → 0 < n → 0 < length ws
-  unfolding french
-  falling-some end p = absurd (omega arith)
-  falling-some (skip f) p = falling-some f p
-  falling-some (group {k = k} {ws = ws} g a b f) p = rw (length-append (frenchGroup S k g) ws) (omega (arith, group-some k g a b))
-
-  sentence-some : {ws : List Word} {minus : Bool} {n : ℕ} → Sentence (french S) ws minus n → 0 < length ws
-  sentence-some nought = omega arith
-  sentence-some (unmarked f p) = falling-some f p
-  sentence-some (marked f p) = omega arith
-
   pub some-words : (n : ℕ) → n < 1000 ^ 34 → 0 < length (cardinalWords (french S) false n)
   unfolding french
-  some-words n h = sentence-some (sentence (french S) false n h (λ z. refl))
+  some-words n h = words-some (french S) groups-some false n h
 
   -- the phrase of an ordinal other than the first
   pub nth-phrase : (n : ℕ) → n < 1000 ^ 34 → (n ≡ 1 → ⊥) → nthPhrase S n ≡ nth (cardinalPhrase (french S) false n)

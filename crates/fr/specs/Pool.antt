@@ -7,10 +7,10 @@ use Rattle.base.specs.Utf8.{utf8}
 -- all of them, one over another
 unfoldable pub frPool : List ℕ
 frPool =
-    utf8 "cinquante dix-neufquarantequatorzenonante quinzetreizetrentedouze ième mille seize centdeuxonzedix-s"
-    ++ (utf8 "eptantedix-huitantevingtroisoixanteunetquatre-vingtsix quattuordécilliardsquattuordécillions quindéc"
-    ++ (utf8 "illiardstrédécilliardsduodécilliards quindécillions duodécillionsunodécillionsquadrilliards quintill"
-    ++ (utf8 "iards quadrillionsquatre centsquatre-centsquintillionsnonilliards octilliards cinq centscinq-centsde"
-    ++ (utf8 "ux centsdeux-centshuit centshuit-centsneuf centsneuf-centsnonillionstrilliardsbilliards milliards bi"
-    ++ (utf8 "llionsmillionspremier moins zéroctillionsunodécilliardsix-centsix centsextillionsextilliardstrédécil"
-    ++ (utf8 "lionsexdécillionstrois-centsexdécilliardseptillionseptilliardstrois centsept-centstrillionsept cents"))))))
+    utf8 "cinquante_dix-neufquarantequatorzenonante_quinzetreizetrentedouze_ième_mille_seize_centdeuxonzedix-s"
+    ++ (utf8 "eptantedix-huitantevingtroisoixanteunetquatre-vingtsix_quattuordécilliardsquattuordécillions_quindéc"
+    ++ (utf8 "illiardstrédécilliardsduodécilliards_quindécillions_duodécillionsunodécillionsquadrilliards_quintill"
+    ++ (utf8 "iards_quadrillionsquatre-centsquintillionsnonilliards_octilliards_cinq-centsdeux-centshuit-centsneuf"
+    ++ (utf8 "-centsnonillionstrilliardsbilliards_milliards_billionsmillionspremier_moins_zéroctillionsunodécillia"
+    ++ (utf8 "rdsix-centsextillionsextilliardstrédécillionsexdécillionstrois-centsexdécilliardseptillionseptilliar"
+    ++ (utf8 "dstrillionsept-centsquatre centscinq centsdeux centshuit centsneuf centstrois centsix centsept cents"))))))

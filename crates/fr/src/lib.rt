@@ -3,6 +3,7 @@ mod places; // places.rt: the tables of words, with the place of each
 mod pool; // pool.rt: the texts
 
 use base::Answer;
+use base::Measure;
 use settings::FEMININE;
 use settings::Settings;
 ghost use mathlib.Core.Path.{_≡_};
@@ -13,6 +14,7 @@ ghost use lib.Dec.{eqb};
 ghost use lib.ListN.{length};
 ghost use Rattle.base.specs.Utf8.{utf8, form1};
 ghost use Rattle.base.specs.Answer.{fitted, Answers};
+ghost use Rattle.base.specs.Measure.{measureOf};
 ghost use Rattle.base.specs.Decides.{Decides};
 ghost use Rattle.base.specs.Room.{longestPiece};
 ghost use Rattle.settings.specs.Settings.{frenchRanges, Within};
@@ -59,6 +61,15 @@ pub fn speak(plan: &[u32], n: usize, out: &mut [u8]) -> Answer
 {
     let lent = texts();
     plan::speak(&lent, plan, n, out)
+}
+
+// The measure of what they say: the texts are not made for it.
+pub fn measure(plan: &[u32], n: usize) -> Measure
+    requires { ⌜ (n ≤ length (now plan)) × (n ≤ 1000) ⌝ }
+    ensures { λ r. ⌜ r ≡ measureOf (phraseOf (says frPool (now (plan .entry)) n)) ⌝ }
+{
+    let counts = pool::COUNTS;
+    plan::measure::measure(pool::UNSPACED, &counts, plan, n)
 }
 
 // Whether s is the phrase of a plan.

@@ -1,5 +1,6 @@
-// French cardinals and ordinals from bytes to bytes, both ways. No phrase is longer than the room that the program keeps for an answer.
+// French cardinals and ordinals from bytes to bytes, both ways, and their measures. No phrase is longer than the room that the program keeps for an answer.
 use base::Answer;
+use base::Measure;
 use base::WRONG_SETTING;
 use fr_plan::ORDERS;
 use fr_plan::PLAN;
@@ -9,6 +10,7 @@ ghost use mathlib.Core.Bool.{true};
 ghost use Prim.Native.Nat.{_≤_};
 ghost use lib.ListN.{length};
 ghost use Rattle.base.specs.Answer.{fitted, replied, Answers};
+ghost use Rattle.base.specs.Measure.{measureOf, measured};
 ghost use Rattle.base.specs.Reading.{Reads};
 ghost use Rattle.base.specs.Room.{phraseRoom};
 ghost use Rattle.settings.specs.Settings.{frenchSettings, frenchRanges, Within};
@@ -56,6 +58,21 @@ fn spell_cardinal(settings: Settings, text: &[u8], out: &mut [u8]) -> Answer
     fr::speak(&plan, n, out)
 }
 
+// Its measure.
+fn measure_number(settings: Settings, text: &[u8]) -> Measure
+    requires { ⌜ Within (frenchRanges settings) × (wellFormed (now text) ≡ true) × (length (unsigned (now text)) ≤ 102) ⌝ }
+    ensures { λ r. ⌜ r ≡ measureOf (frToCardinal settings (now (text .entry)) .phrase) ⌝ }
+{
+    let zero = figures::is_zero(text);
+    let minus = figures::is_negative(text);
+    let digits = figures::after_sign(text);
+    let gs = groups::groups34(digits);
+    let orders = groups::count(digits);
+    let mut plan = [0u32; PLAN];
+    let pieces = fr_plan::plan_cardinal(settings, zero, minus, orders, &gs, &mut plan);
+    fr::measure(&plan, pieces)
+}
+
 // The ordinal of an admitted text. The texts are made once, for the plan and for its phrase.
 fn spell_ordinal(settings: Settings, text: &[u8], out: &mut [u8]) -> Answer
     requires { ⌜ Within (frenchRanges settings) × (wellFormed (now text) ≡ true) × (length (unsigned (now text)) ≤ 102) ⌝ }
@@ -69,6 +86,20 @@ fn spell_ordinal(settings: Settings, text: &[u8], out: &mut [u8]) -> Answer
     let mut plan = [0u32; PLAN];
     let n = fr_plan::plan_ordinal(&lent, settings, orders, &gs, &mut plan);
     plan::speak(&lent, &plan, n, out)
+}
+
+// Its measure. The texts are made for the plan.
+fn measure_nth(settings: Settings, text: &[u8]) -> Measure
+    requires { ⌜ Within (frenchRanges settings) × (wellFormed (now text) ≡ true) × (length (unsigned (now text)) ≤ 102) ⌝ }
+    ensures { λ r. ⌜ r ≡ measureOf (frToOrdinal settings (now (text .entry)) .phrase) ⌝ }
+{
+    let lent = fr::texts();
+    let digits = figures::after_sign(text);
+    let gs = groups::groups34(digits);
+    let orders = groups::count(digits);
+    let mut plan = [0u32; PLAN];
+    let pieces = fr_plan::plan_ordinal(&lent, settings, orders, &gs, &mut plan);
+    fr::measure(&plan, pieces)
 }
 
 // Any bytes, read as a cardinal.
@@ -104,6 +135,18 @@ pub fn to_cardinal(feminine: u32, reformed: u32, region: u32, text: &[u8], out: 
     }
 }
 
+// What that phrase measures.
+pub fn measure_cardinal(feminine: u32, reformed: u32, region: u32, text: &[u8]) -> Measure
+    ensures { λ r. ⌜ r ≡ measured (frToCardinal (frenchSettings feminine reformed region) (now (text .entry))) ⌝ }
+{
+    let n = refuse_cardinal(feminine, reformed, region, text);
+    if n == 0 {
+        measure_number(settings::french(feminine, reformed, region), text)
+    } else {
+        base::unmeasured(n)
+    }
+}
+
 // The ordinal of a number text.
 pub fn to_ordinal(feminine: u32, reformed: u32, region: u32, text: &[u8], out: &mut [u8]) -> Answer
     ensures { λ r. ⌜ Answers r (now (out .entry)) (now (out .exit)) (replied (frToOrdinal (frenchSettings feminine reformed region) (now (text .entry))) (now (out .entry))) ⌝ }
@@ -114,6 +157,18 @@ pub fn to_ordinal(feminine: u32, reformed: u32, region: u32, text: &[u8], out: &
         spell_ordinal(settings::french(feminine, reformed, region), text, out)
     } else {
         base::refused(n)
+    }
+}
+
+// What that phrase measures.
+pub fn measure_ordinal(feminine: u32, reformed: u32, region: u32, text: &[u8]) -> Measure
+    ensures { λ r. ⌜ r ≡ measured (frToOrdinal (frenchSettings feminine reformed region) (now (text .entry))) ⌝ }
+{
+    let n = refuse_ordinal(feminine, reformed, region, text);
+    if n == 0 {
+        measure_nth(settings::french(feminine, reformed, region), text)
+    } else {
+        base::unmeasured(n)
     }
 }
 

@@ -7,9 +7,10 @@ use mathlib.Core.List.{List}
 use native.Mathlib.Omega.{arith}
 use lib.ListN.{length}
 use Rattle.figures.specs.Groups.{groupsOf, total, Groups}
-use Rattle.figures.specs.Text.{plain, value}
+use Rattle.figures.specs.Text.{plain, value, unsigned, wellFormed}
 use Rattle.figures.proofs.Laws.Groups.{groups-length, groups-below, total-groups, hold}
 use Rattle.figures.proofs.Laws.Plain.{plain-digits}
+use Rattle.figures.proofs.Laws.Sign.{formed-unsigned}
 use Rattle.groups.specs.Highest.{Highest}
 use Rattle.groups.proofs.Highest.{counted}
 
@@ -29,3 +30,7 @@ held k s gs n p l e c = record {
   few = omega arith;
   top = rw (e, c) (counted s p k (omega arith));
 }
+
+-- the same of a well formed text: s are its digits, behind its sign
+pub held-text : (k : ℕ) (text s gs : List ℕ) (n : ℕ) → wellFormed text ≡ true → length (unsigned text) ≤ k * 3 → s ≡ unsigned text → gs ≡ groupsOf k (value s) → n ≡ (length s + 2) / 3 → Held k (unsigned text) gs n
+held-text k text s gs n f l e g c = held k (unsigned text) gs n (formed-unsigned text f) l (rw e at g) (rw e at c)

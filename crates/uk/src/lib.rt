@@ -3,6 +3,7 @@ mod places; // places.rt: the tables of uk.rs, with the place of each text
 mod pool; // pool.rt: the texts
 
 use base::Answer;
+use base::Measure;
 use settings::FEMININE;
 use settings::GENITIVE;
 use settings::MASCULINE;
@@ -14,6 +15,7 @@ ghost use mathlib.Core.Path.{_≡_};
 ghost use Prim.Native.Nat.{_-_, _*_, _≤_, _<_};
 ghost use lib.ListN.{length};
 ghost use Rattle.base.specs.Answer.{fitted, Answers};
+ghost use Rattle.base.specs.Measure.{measureOf};
 ghost use Rattle.base.specs.Decides.{Decides};
 ghost use Rattle.base.specs.Utf8.{utf8, form1, form2};
 ghost use Rattle.base.specs.Room.{longestPiece};
@@ -48,6 +50,15 @@ pub fn speak(plan: &[u32], n: usize, out: &mut [u8]) -> Answer
 {
     let lent = texts();
     plan::speak(&lent, plan, n, out)
+}
+
+// The measure of what they say: the texts are not made for it.
+pub fn measure(plan: &[u32], n: usize) -> Measure
+    requires { ⌜ (n ≤ length (now plan)) × (n ≤ 1000) ⌝ }
+    ensures { λ r. ⌜ r ≡ measureOf (phraseOf (says ukPool (now (plan .entry)) n)) ⌝ }
+{
+    let counts = pool::COUNTS;
+    plan::measure::measure(pool::UNSPACED, &counts, plan, n)
 }
 
 // Whether s is the phrase of a plan.

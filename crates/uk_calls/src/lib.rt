@@ -1,5 +1,6 @@
-// Ukrainian cardinals from bytes to bytes, both ways. No phrase is longer than the room that the program keeps for an answer.
+// Ukrainian cardinals from bytes to bytes, both ways, and their measure. No phrase is longer than the room that the program keeps for an answer.
 use base::Answer;
+use base::Measure;
 use base::WRONG_SETTING;
 use settings::Settings;
 use uk::DIGITS;
@@ -10,6 +11,7 @@ ghost use mathlib.Core.Bool.{true};
 ghost use Prim.Native.Nat.{_≤_};
 ghost use lib.ListN.{length};
 ghost use Rattle.base.specs.Answer.{fitted, replied, Answers};
+ghost use Rattle.base.specs.Measure.{measureOf, measured};
 ghost use Rattle.base.specs.Reading.{Reads as ReadsAs};
 ghost use Rattle.base.specs.Room.{phraseRoom};
 ghost use Rattle.settings.specs.Settings.{ukrainianSettings, ukrainianRanges, Within};
@@ -42,6 +44,22 @@ fn spell(settings: Settings, text: &[u8], out: &mut [u8]) -> Answer
     uk::speak(&plan, n, out)
 }
 
+// Its measure: planned and measured. What is planned stands here again: a function for both is too large to be inlined, and spelling a short figure
+// would take a tenth longer.
+fn measure(settings: Settings, text: &[u8]) -> Measure
+    requires { ⌜ Within (ukrainianRanges settings) × (wellFormed (now text) ≡ true) × (length (unsigned (now text)) ≤ 66) ⌝ }
+    ensures { λ r. ⌜ r ≡ measureOf (ukToCardinal settings (now (text .entry)) .phrase) ⌝ }
+{
+    let zero = figures::is_zero(text);
+    let minus = figures::is_negative(text);
+    let digits = figures::after_sign(text);
+    let gs = groups::groups22(digits);
+    let orders = groups::count(digits);
+    let mut plan = [0u32; PLAN];
+    let pieces = uk_plan::plan_cardinal(settings, zero, minus, orders, &gs, &mut plan);
+    uk::measure(&plan, pieces)
+}
+
 // Any bytes, read under settings in their ranges.
 fn read(settings: Settings, said: &[u8], out: &mut [u8]) -> Answer
     requires { ⌜ ukFromCardinal settings .refusal ≡ 0 ⌝ }
@@ -62,6 +80,18 @@ pub fn to_cardinal(gender: u32, number: u32, case: u32, text: &[u8], out: &mut [
         spell(settings::ukrainian(gender, number, case), text, out)
     } else {
         base::refused(n)
+    }
+}
+
+// What that phrase measures.
+pub fn measure_cardinal(gender: u32, number: u32, case: u32, text: &[u8]) -> Measure
+    ensures { λ r. ⌜ r ≡ measured (ukToCardinal (ukrainianSettings gender number case) (now (text .entry))) ⌝ }
+{
+    let n = refuse(gender, number, case, text);
+    if n == 0 {
+        measure(settings::ukrainian(gender, number, case), text)
+    } else {
+        base::unmeasured(n)
     }
 }
 

@@ -5,3 +5,4 @@ pub mod Names
 pub mod Placed
 pub mod Apart
 pub mod Amounts
+pub mod Words

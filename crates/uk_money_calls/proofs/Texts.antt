@@ -1,12 +1,13 @@
 -- What the speller needs of an admitted money text's whole part and hundredths.
 -- Assumes nothing.
-use Prim.Native.Nat.{ℕ, _-_, _≤_, _<_}
+use Prim.Native.Nat.{ℕ, _+_, _-_, _/_, _≤_, _<_}
 use native.Mathlib.Omega.{arith}
-use mathlib.Core.Path.{_≡_, refl, sym, _∙_}
+use mathlib.Core.Path.{_≡_, refl, sym, ap, _∙_}
 use mathlib.Core.Bool.{Bool, true, false, cond, not, and-eq-true-iff}
 use mathlib.Core.List.{List}
 use lib.Dec.{eqb}
 use lib.ListN.{length, take}
+use Rattle.figures.specs.Groups.{groupsOf}
 use Rattle.figures.specs.Text.{digits, plain, value, negative, unsigned, wellFormed}
 use Rattle.figures.specs.Money.{pointed, wholeText, hundredthsText, moneyFormed, wholeOf, moneyLimit}
 use Rattle.figures.specs.Refusals.{amountRefusals, Admitted}
@@ -15,6 +16,7 @@ use Rattle.figures.proofs.Laws.Sign.{plain-size}
 use Rattle.figures.proofs.Laws.Money.{hundredths-size, money-pointed, whole-plain}
 use Rattle.figures.proofs.Laws.Refusals.{Passed, passed}
 use Rattle.figures.proofs.Laws.Round.{negative-take}
+use Rattle.groups.proofs.Held.{Held, held-text}
 
 pub admits : (t : List ℕ) → Admitted (amountRefusals t) → Passed (moneyFormed t) (negative t) (wholeOf t) moneyLimit
 admits t a = passed (moneyFormed t) (negative t) (wholeOf t) moneyLimit a
@@ -42,6 +44,10 @@ module _ (t : List ℕ) (a : Admitted (amountRefusals t)) where
   -- within the limit there are at most 20 digits
   pub whole-few : length (unsigned (wholeText t)) ≤ 20
   whole-few = plain-size (unsigned (wholeText t)) 20 plain-whole (omega arith) (omega (arith, admits t a .within))
+
+  -- s being its digits, their groups have at most 7 orders
+  pub whole-held : (s gs : List ℕ) (n : ℕ) → s ≡ unsigned (wholeText t) → gs ≡ groupsOf 22 (value s) → n ≡ (length s + 2) / 3 → Held 22 (unsigned (wholeText t)) gs n × (n ≤ 7)
+  whole-held s gs n e g c = (held-text 22 (wholeText t) s gs n whole-formed (omega (arith, whole-few)) e g c, omega (arith, ap length e, whole-few))
 
   pub hundredths-digits : digits (hundredthsText t) ≡ true
   hundredths-digits = go (pointed t) refl

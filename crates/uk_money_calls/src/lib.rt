@@ -1,6 +1,7 @@
-// Ukrainian money from bytes to bytes, both ways: settings, code, text, sign, size and room are checked in 01's order. No phrase is longer than
+// Ukrainian money from bytes to bytes, both ways, and its measure: settings, code, text, sign, size and room are checked in 01's order. No phrase is longer than
 // the room that the program keeps for an answer.
 use base::Answer;
+use base::Measure;
 use base::NO_SENTENCE;
 use base::WRONG_CODE;
 use base::WRONG_SETTING;
@@ -13,6 +14,7 @@ ghost use Prim.Native.Nat.{_≤_, _<_};
 ghost use mathlib.Core.Path.{_≡_};
 ghost use mathlib.Core.Option.{some};
 ghost use Rattle.base.specs.Answer.{fitted, replied, Answers};
+ghost use Rattle.base.specs.Measure.{measureOf, measured};
 ghost use Rattle.base.specs.Reading.{Reads as ReadsAs};
 ghost use Rattle.base.specs.Room.{phraseRoom};
 ghost use Rattle.settings.specs.Settings.{ukrainianSettings, ukrainianRanges, Within};
@@ -37,6 +39,22 @@ fn spell(settings: Settings, currency: usize, text: &[u8], out: &mut [u8]) -> An
     let mut plan = [0u32; PLAN];
     let k = uk_money_plan::plan_money(settings, currency, zero, n, &gs, hundredths, &mut plan);
     uk::speak(&plan, k, out)
+}
+
+// Its measure: planned and measured.
+fn measure(settings: Settings, currency: usize, text: &[u8]) -> Measure
+    requires { ⌜ Within (ukrainianRanges settings) × (currency < 44) × Admitted (amountRefusals (now text)) ⌝ }
+    ensures { λ r. ⌜ r ≡ measureOf (amountPhrase settings (currencyAt currency) (wholeOf (now (text .entry))) (hundredthsOf (now (text .entry)))) ⌝ }
+{
+    let whole = figures::money::whole_part(text);
+    let zero = figures::is_zero(whole);
+    let digits = figures::after_sign(whole);
+    let gs = groups::groups22(digits);
+    let n = groups::count(digits);
+    let hundredths = figures::value_of(figures::money::hundredths_part(text)) as u32;
+    let mut plan = [0u32; PLAN];
+    let pieces = uk_money_plan::plan_money(settings, currency, zero, n, &gs, hundredths, &mut plan);
+    uk::measure(&plan, pieces)
 }
 
 // Any bytes, read under settings in their ranges for a currency.
@@ -78,6 +96,25 @@ pub fn to_currency(
         return base::refused(WRONG_CODE);
     }
     base::refused(WRONG_SETTING)
+}
+
+// What that phrase measures.
+pub fn measure_currency(gender: u32, number: u32, case: u32, code: &[u8], text: &[u8]) -> Measure
+    ensures { λ r. ⌜ r ≡ measured (ukToCurrency (ukrainianSettings gender number case) (now (code .entry)) (now (text .entry))) ⌝ }
+{
+    if settings::is_ukrainian(gender, number, case) {
+        let currency = uk_money::code_of(code);
+        if currency < CURRENCIES {
+            let n = figures::refusals::number_of(figures::refusals::judge_amount(text));
+            if n == 0 {
+                let settings = settings::ukrainian(gender, number, case);
+                return measure(settings, currency, text);
+            }
+            return base::unmeasured(n);
+        }
+        return base::unmeasured(WRONG_CODE);
+    }
+    base::unmeasured(WRONG_SETTING)
 }
 
 // The money text of an amount.

@@ -1,3 +1,4 @@
 pub mod Admitted
 pub mod Softness
 pub mod Hyphened
+pub mod OneWord

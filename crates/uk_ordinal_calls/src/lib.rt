@@ -1,7 +1,9 @@
-// Ukrainian ordinals, digit ordinals and years from bytes to bytes. No phrase is longer than the room that the program keeps for an answer.
+// Ukrainian ordinals, digit ordinals and years from bytes to bytes, and their measures. No phrase is longer than the room that the program keeps for an answer.
 mod digits; // digits.rt: digit ordinals
 
 use base::Answer;
+use base::Measure;
+use base::NO_ROOM;
 use base::WRONG_SETTING;
 use settings::Settings;
 use uk::DIGITS;
@@ -13,6 +15,7 @@ ghost use mathlib.Core.Bool.{true};
 ghost use Prim.Native.Nat.{_≤_};
 ghost use lib.ListN.{length};
 ghost use Rattle.base.specs.Answer.{fitted, replied, Answers};
+ghost use Rattle.base.specs.Measure.{measureOf, measured};
 ghost use Rattle.base.specs.Room.{phraseRoom};
 ghost use Rattle.figures.specs.Text.{plain};
 ghost use Rattle.settings.specs.Settings.{ukrainianSettings, ukrainianRanges, Within};
@@ -60,6 +63,17 @@ fn say_ordinal(settings: Settings, text: &[u8], out: &mut [u8]) -> Answer
     uk::speak(&plan, n, out)
 }
 
+// Its measure.
+fn measure_text(settings: Settings, text: &[u8]) -> Measure
+    requires { ⌜ Within (ukrainianRanges settings) × (plain (now text) ≡ true) × (length (now text) ≤ 66) ⌝ }
+    ensures { λ r. ⌜ r ≡ measureOf (ukToOrdinal settings (now (text .entry)) .phrase) ⌝ }
+{
+    let gs = groups::groups22(text);
+    let mut plan = [0u32; PLAN];
+    let pieces = uk_ordinal_plan::plan_ordinal(settings, groups::count(text), &gs, &mut plan);
+    uk::measure(&plan, pieces)
+}
+
 // A year.
 fn say_year(settings: Settings, year: i64, out: &mut [u8]) -> Answer
     requires { ⌜ Within (ukrainianRanges settings) ⌝ }
@@ -73,6 +87,18 @@ fn say_year(settings: Settings, year: i64, out: &mut [u8]) -> Answer
     uk::speak(&plan, n, out)
 }
 
+// Its measure.
+fn measure_date(settings: Settings, year: i64) -> Measure
+    requires { ⌜ Within (ukrainianRanges settings) ⌝ }
+    ensures { λ r. ⌜ r ≡ measureOf (ukToYear settings year .phrase) ⌝ }
+{
+    let mut gs = [0u16; ORDERS];
+    let orders = groups::groups_from(figures::year::magnitude(year), &mut gs);
+    let mut plan = [0u32; YEAR_PLAN];
+    let pieces = uk_ordinal_plan::plan_year(settings, is_early(year), orders, &gs, &mut plan);
+    uk::measure(&plan, pieces)
+}
+
 // The ordinal of a number text.
 pub fn to_ordinal(gender: u32, number: u32, case: u32, text: &[u8], out: &mut [u8]) -> Answer
     ensures { λ r. ⌜ Answers r (now (out .entry)) (now (out .exit)) (replied (ukToOrdinal (ukrainianSettings gender number case) (now (text .entry))) (now (out .entry))) ⌝ }
@@ -83,6 +109,18 @@ pub fn to_ordinal(gender: u32, number: u32, case: u32, text: &[u8], out: &mut [u
         say_ordinal(settings::ukrainian(gender, number, case), text, out)
     } else {
         base::refused(n)
+    }
+}
+
+// What that phrase measures.
+pub fn measure_ordinal(gender: u32, number: u32, case: u32, text: &[u8]) -> Measure
+    ensures { λ r. ⌜ r ≡ measured (ukToOrdinal (ukrainianSettings gender number case) (now (text .entry))) ⌝ }
+{
+    let n = refuse_ordinal(gender, number, case, text);
+    if n == 0 {
+        measure_text(settings::ukrainian(gender, number, case), text)
+    } else {
+        base::unmeasured(n)
     }
 }
 
@@ -99,6 +137,19 @@ pub fn to_ordinal_num(gender: u32, number: u32, case: u32, text: &[u8], out: &mu
     }
 }
 
+// What it measures: lent no room, the spelling call reports the length, and no digit, hyphen or ending is a space.
+pub fn measure_ordinal_num(gender: u32, number: u32, case: u32, text: &[u8]) -> Measure
+    ensures { λ r. ⌜ r ≡ measured (ukToOrdinalNum (ukrainianSettings gender number case) (now (text .entry))) ⌝ }
+{
+    let mut byte = [0u8; 1];
+    let answer = to_ordinal_num(gender, number, case, text, &mut byte[..0]);
+    if answer.number == NO_ROOM {
+        base::measure_of(0, answer.length)
+    } else {
+        base::unmeasured(answer.number)
+    }
+}
+
 // The phrase of a year.
 pub fn to_year(gender: u32, number: u32, case: u32, year: i64, out: &mut [u8]) -> Answer
     ensures { λ r. ⌜ Answers r (now (out .entry)) (now (out .exit)) (replied (ukToYear (ukrainianSettings gender number case) year) (now (out .entry))) ⌝ }
@@ -108,5 +159,16 @@ pub fn to_year(gender: u32, number: u32, case: u32, year: i64, out: &mut [u8]) -
         say_year(settings::ukrainian(gender, number, case), year, out)
     } else {
         base::refused(WRONG_SETTING)
+    }
+}
+
+// What it measures.
+pub fn measure_year(gender: u32, number: u32, case: u32, year: i64) -> Measure
+    ensures { λ r. ⌜ r ≡ measured (ukToYear (ukrainianSettings gender number case) year) ⌝ }
+{
+    if settings::is_ukrainian(gender, number, case) {
+        measure_date(settings::ukrainian(gender, number, case), year)
+    } else {
+        base::unmeasured(WRONG_SETTING)
     }
 }

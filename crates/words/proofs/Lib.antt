@@ -1,4 +1,5 @@
 pub mod Stores
 pub mod Pieces
 pub mod Parts
+pub mod Counts
 pub mod Tables

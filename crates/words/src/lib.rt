@@ -1,6 +1,7 @@
-// Texts as parts of a pool, which a caller lends: their lengths, their bytes, and whether a phrase begins with one. Of a text of 8 to 16 bytes
+// Texts as parts of a pool, which a caller lends: their lengths and spaces, their bytes, and whether a phrase begins with one. Of a text of 8 to 16 bytes
 // two moves are made, which may overlap.
 mod moves; // moves.rt: two, four and eight bytes at a time
+pub mod extents; // extents.rt: length and spaces, without the pool
 
 use crate::moves::move2;
 use crate::moves::move4;

@@ -10,8 +10,10 @@ use native.Mathlib.Omega.{arith}
 use lib.Dec.{ltb}
 use lib.ListN.{length}
 use Rattle.base.specs.Answer.{wrongSetting, wrongCode, malformed, wrongSign, tooLarge, noSentence, noRoom, firstOf, Reply, refused, bytes, numberOf, fitted, unless, replied, Answers}
+use Rattle.base.specs.Measure.{measureUnless, measured}
 use Rattle.base.specs.Reading.{Replies, earlier, sentence, otherwise, Reads}
 use Rattle.base.specs.declared.Answer.{Answer}
+use Rattle.base.specs.declared.Measure.{Measure}
 use Rattle.settings.specs.Settings.{ukrainianSettings, frenchSettings, ukrainianRanges, frenchRanges}
 use Rattle.settings.specs.Refused.{outOfRange}
 use Rattle.figures.specs.Refusals.{ukrainianDigitLimit, frenchDigitLimit, cardinalRefusals, ordinalRefusals, digitOrdinalRefusals, amountRefusals}
@@ -19,8 +21,8 @@ use Rattle.uk_money.specs.Currencies.{Currency}
 use Rattle.uk_money.specs.Codes.{currencyOf, unknown}
 use Rattle.yokepear.specs.Calls.{SpellingCall, spellingOf, readingOf, toCardinal, toOrdinal, toOrdinalNum, toYear, toCurrency, toFrenchCardinal, toFrenchOrdinal, ReadingCall, fromCardinal, fromCurrency, fromFrenchCardinal, fromFrenchOrdinal, Called, bySpelling, byReading, OneOf}
 
--- what holds of 0, 7 and the numbers of the conditions that a call names holds of the number that it answers with
-module _ (P : ℕ → Type 0) (none-is : P 0) (room-is : P noRoom) where
+-- what holds of 0 and the numbers of the conditions that a call names holds of its refusal; and if of 7 too, of the number that it answers with
+module _ (P : ℕ → Type 0) (none-is : P 0) (setting-is : P wrongSetting) (code-is : P wrongCode) where
   abbrev Each : List (Bool × ℕ) → Type 0
   Each [] = Unit
   Each (c ∷ cs) = P (c .1) × Each cs
@@ -33,36 +35,36 @@ module _ (P : ℕ → Type 0) (none-is : P 0) (room-is : P noRoom) where
       go true q = p .0
       go false q = q
 
-  fitted-is : (xs b : List ℕ) → P (numberOf (fitted xs b))
-  fitted-is xs b = go (ltb (length xs) (length b))
-    where
-      go : (t : Bool) → P (numberOf (cond t (refused noRoom (length b)) (bytes b)))
-      go true = room-is
-      go false = none-is
+  settings-then : (rs : List (ℕ × ℕ)) (cs : List (Bool × ℕ)) → Each cs → P (firstOf (outOfRange rs ∷ cs))
+  settings-then rs cs p = first-is (outOfRange rs ∷ cs) (setting-is, p)
 
-  replied-is : (n : ℕ) (xs b : List ℕ) → P n → P (numberOf (unless n (fitted xs b)))
-  replied-is zero xs b p = fitted-is xs b
-  replied-is (suc n) xs b p = p
+  unknown-is : (c : Option Currency) → P (unknown c .1)
+  unknown-is none = code-is
+  unknown-is (some c) = code-is
 
-  module _ (setting-is : P wrongSetting) (code-is : P wrongCode) where
-    settings-then : (rs : List (ℕ × ℕ)) (cs : List (Bool × ℕ)) → Each cs → P (firstOf (outOfRange rs ∷ cs))
-    settings-then rs cs p = first-is (outOfRange rs ∷ cs) (setting-is, p)
+  refusal-is : P malformed → P wrongSign → P tooLarge → (call : SpellingCall) → P (spellingOf call .refusal)
+  refusal-is text sign size (toCardinal gender number case t) = settings-then (ukrainianRanges (ukrainianSettings gender number case)) (cardinalRefusals ukrainianDigitLimit t) (text, (size, tt))
+  refusal-is text sign size (toOrdinal gender number case t) = settings-then (ukrainianRanges (ukrainianSettings gender number case)) (ordinalRefusals ukrainianDigitLimit t) (text, (sign, (size, tt)))
+  refusal-is text sign size (toOrdinalNum gender number case t) = settings-then (ukrainianRanges (ukrainianSettings gender number case)) (digitOrdinalRefusals t) (text, (sign, (size, tt)))
+  refusal-is text sign size (toYear gender number case y) = settings-then (ukrainianRanges (ukrainianSettings gender number case)) [] tt
+  refusal-is text sign size (toCurrency gender number case code t) = settings-then (ukrainianRanges (ukrainianSettings gender number case)) (unknown (currencyOf code) ∷ amountRefusals t) (unknown-is (currencyOf code), (text, (sign, (size, tt))))
+  refusal-is text sign size (toFrenchCardinal feminine reformed region t) = settings-then (frenchRanges (frenchSettings feminine reformed region)) (cardinalRefusals frenchDigitLimit t) (text, (size, tt))
+  refusal-is text sign size (toFrenchOrdinal feminine reformed region t) = settings-then (frenchRanges (frenchSettings feminine reformed region)) (ordinalRefusals frenchDigitLimit t) (text, (sign, (size, tt)))
 
-    unknown-is : (c : Option Currency) → P (unknown c .1)
-    unknown-is none = code-is
-    unknown-is (some c) = code-is
+  module _ (room-is : P noRoom) where
+    fitted-is : (xs b : List ℕ) → P (numberOf (fitted xs b))
+    fitted-is xs b = go (ltb (length xs) (length b))
+      where
+        go : (t : Bool) → P (numberOf (cond t (refused noRoom (length b)) (bytes b)))
+        go true = room-is
+        go false = none-is
+
+    replied-is : (n : ℕ) (xs b : List ℕ) → P n → P (numberOf (unless n (fitted xs b)))
+    replied-is zero xs b p = fitted-is xs b
+    replied-is (suc n) xs b p = p
 
     spelling-is : P malformed → P wrongSign → P tooLarge → (call : SpellingCall) (xs : List ℕ) → P (numberOf (replied (spellingOf call) xs))
-    spelling-is text sign size call xs = replied-is (spellingOf call .refusal) xs (spellingOf call .phrase) (go call)
-      where
-        go : (call : SpellingCall) → P (spellingOf call .refusal)
-        go (toCardinal gender number case t) = settings-then (ukrainianRanges (ukrainianSettings gender number case)) (cardinalRefusals ukrainianDigitLimit t) (text, (size, tt))
-        go (toOrdinal gender number case t) = settings-then (ukrainianRanges (ukrainianSettings gender number case)) (ordinalRefusals ukrainianDigitLimit t) (text, (sign, (size, tt)))
-        go (toOrdinalNum gender number case t) = settings-then (ukrainianRanges (ukrainianSettings gender number case)) (digitOrdinalRefusals t) (text, (sign, (size, tt)))
-        go (toYear gender number case y) = settings-then (ukrainianRanges (ukrainianSettings gender number case)) [] tt
-        go (toCurrency gender number case code t) = settings-then (ukrainianRanges (ukrainianSettings gender number case)) (unknown (currencyOf code) ∷ amountRefusals t) (unknown-is (currencyOf code), (text, (sign, (size, tt))))
-        go (toFrenchCardinal feminine reformed region t) = settings-then (frenchRanges (frenchSettings feminine reformed region)) (cardinalRefusals frenchDigitLimit t) (text, (size, tt))
-        go (toFrenchOrdinal feminine reformed region t) = settings-then (frenchRanges (frenchSettings feminine reformed region)) (ordinalRefusals frenchDigitLimit t) (text, (sign, (size, tt)))
+    spelling-is text sign size call xs = replied-is (spellingOf call .refusal) xs (spellingOf call .phrase) (refusal-is text sign size call)
 
     reading-is : P noSentence → (call : ReadingCall) {s xs : List ℕ} {reply : Reply} → Replies (readingOf call) s xs reply → P (numberOf reply)
     reading-is six call {s} {xs} (earlier f) = go call
@@ -83,7 +85,18 @@ spelling-never-6 call r xs ys a = rw (a .reported) (spelling-is (λ (n : ℕ). n
 pub reading-gives : (call : ReadingCall) (s : List ℕ) (r : Answer) (xs ys : List ℕ) → Reads (readingOf call) s r xs ys → OneOf (0 ∷ wrongSetting ∷ wrongCode ∷ noSentence ∷ noRoom ∷ []) (r .number)
 reading-gives call s r xs ys p =
     rw (p .isAnswer .reported)
-    (reading-is (OneOf (0 ∷ wrongSetting ∷ wrongCode ∷ noSentence ∷ noRoom ∷ [])) (inl refl) (inr (inr (inr (inr (inl refl))))) (inr (inl refl)) (inr (inr (inl refl))) (inr (inr (inr (inl refl)))) call (p .isReply))
+    (reading-is (OneOf (0 ∷ wrongSetting ∷ wrongCode ∷ noSentence ∷ noRoom ∷ [])) (inl refl) (inr (inl refl)) (inr (inr (inl refl))) (inr (inr (inr (inr (inl refl))))) (inr (inr (inr (inl refl)))) call (p .isReply))
+
+-- a measuring call's refusal is the spelling call's: "Refusals 1 to 5 come in their old order; 7 never occurs here" (02, W1)
+measured-refusal : (n : ℕ) (phrase : List ℕ) → measureUnless n phrase .refusal ≡ n
+measured-refusal zero phrase = refl
+measured-refusal (suc n) phrase = refl
+
+pub measuring-gives : (call : SpellingCall) (m : Measure) → m ≡ measured (spellingOf call) → OneOf (0 ∷ wrongSetting ∷ wrongCode ∷ malformed ∷ wrongSign ∷ tooLarge ∷ []) (m .refusal)
+measuring-gives call m e =
+    rw (e, measured-refusal (spellingOf call .refusal) (spellingOf call .phrase))
+    (refusal-is (OneOf (0 ∷ wrongSetting ∷ wrongCode ∷ malformed ∷ wrongSign ∷ tooLarge ∷ [])) (inl refl) (inr (inl refl)) (inr (inr (inl refl)))
+    (inr (inr (inr (inl refl)))) (inr (inr (inr (inr (inl refl))))) (inr (inr (inr (inr (inr (inl refl)))))) call)
 
 -- every call's number is one of the table, or 0
 pub number-known : (r : Answer) (xs ys : List ℕ) → Called r xs ys → r .number ≤ noRoom

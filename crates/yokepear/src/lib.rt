@@ -2,7 +2,10 @@
 // (specs/Calls.antt), and have no `requires`: of the host it is asked only, as of any caller in Rattle, that out does not overlap what is read
 // (include/yokepear.h).
 use base::Answer;
+use base::Measure;
+ghost use mathlib.Core.Path.{_≡_};
 ghost use Rattle.base.specs.Answer.{replied, Answers};
+ghost use Rattle.base.specs.Measure.{measured};
 ghost use Rattle.base.specs.Reading.{Reads};
 ghost use Rattle.yokepear.specs.Calls.{toCardinal, toOrdinal, toOrdinalNum, toYear, toCurrency, toFrenchCardinal, toFrenchOrdinal, spellingOf, fromCardinal, fromCurrency, fromFrenchCardinal, fromFrenchOrdinal, readingOf};
 
@@ -160,4 +163,96 @@ pub extern "C" fn yokepear_fr_from_ordinal(
     ensures { λ r. ⌜ Reads (readingOf (fromFrenchOrdinal feminine reformed region)) (now (phrase .entry)) r (now (out .entry)) (now (out .exit)) ⌝ }
 {
     fr_calls::from_ordinal(feminine, reformed, region, phrase, out)
+}
+
+// The measure of a cardinal.
+#[no_mangle]
+pub extern "C" fn yokepear_uk_measure_cardinal(
+    gender: u32,
+    number: u32,
+    case: u32,
+    text: &[u8],
+) -> Measure
+    ensures { λ r. ⌜ r ≡ measured (spellingOf (toCardinal gender number case (now (text .entry)))) ⌝ }
+{
+    uk_calls::measure_cardinal(gender, number, case, text)
+}
+
+// The measure of an ordinal.
+#[no_mangle]
+pub extern "C" fn yokepear_uk_measure_ordinal(
+    gender: u32,
+    number: u32,
+    case: u32,
+    text: &[u8],
+) -> Measure
+    ensures { λ r. ⌜ r ≡ measured (spellingOf (toOrdinal gender number case (now (text .entry)))) ⌝ }
+{
+    uk_ordinal_calls::measure_ordinal(gender, number, case, text)
+}
+
+// The measure of a digit ordinal.
+#[no_mangle]
+pub extern "C" fn yokepear_uk_measure_ordinal_num(
+    gender: u32,
+    number: u32,
+    case: u32,
+    text: &[u8],
+) -> Measure
+    ensures { λ r. ⌜ r ≡ measured (spellingOf (toOrdinalNum gender number case (now (text .entry)))) ⌝ }
+{
+    uk_ordinal_calls::measure_ordinal_num(gender, number, case, text)
+}
+
+// The measure of a year.
+#[no_mangle]
+pub extern "C" fn yokepear_uk_measure_year(
+    gender: u32,
+    number: u32,
+    case: u32,
+    year: i64,
+) -> Measure
+    ensures { λ r. ⌜ r ≡ measured (spellingOf (toYear gender number case year)) ⌝ }
+{
+    uk_ordinal_calls::measure_year(gender, number, case, year)
+}
+
+// The measure of an amount in a currency.
+#[no_mangle]
+pub extern "C" fn yokepear_uk_measure_currency(
+    gender: u32,
+    number: u32,
+    case: u32,
+    code: &[u8],
+    text: &[u8],
+) -> Measure
+    ensures { λ r. ⌜ r ≡ measured (spellingOf (toCurrency gender number case (now (code .entry)) (now (text .entry)))) ⌝ }
+{
+    uk_money_calls::measure_currency(gender, number, case, code, text)
+}
+
+// The measure of a French cardinal.
+#[no_mangle]
+pub extern "C" fn yokepear_fr_measure_cardinal(
+    feminine: u32,
+    reformed: u32,
+    region: u32,
+    text: &[u8],
+) -> Measure
+    ensures { λ r. ⌜ r ≡ measured (spellingOf (toFrenchCardinal feminine reformed region (now (text .entry)))) ⌝ }
+{
+    fr_calls::measure_cardinal(feminine, reformed, region, text)
+}
+
+// The measure of a French ordinal.
+#[no_mangle]
+pub extern "C" fn yokepear_fr_measure_ordinal(
+    feminine: u32,
+    reformed: u32,
+    region: u32,
+    text: &[u8],
+) -> Measure
+    ensures { λ r. ⌜ r ≡ measured (spellingOf (toFrenchOrdinal feminine reformed region (now (text .entry)))) ⌝ }
+{
+    fr_calls::measure_ordinal(feminine, reformed, region, text)
 }

@@ -1,15 +1,17 @@
 -- What is refused, and what it says of a text that nothing is.
 -- Assumes nothing.
-use Prim.Native.Nat.{ℕ, _≤_}
+use Prim.Native.Nat.{ℕ, _*_, _^_, _≤_, _<_}
 use native.Mathlib.Omega.{arith}
 use mathlib.Core.Bool.{Bool, true, false, not}
 use mathlib.Core.List.{List}
 use mathlib.Core.Path.{_≡_, refl, sym, ap, _∙_}
 use lib.Dec.{ltb}
+use lib.ListN.{length}
 use borrow.Author.Tests.{ltb-false, le-ltb}
 use Rattle.figures.specs.Judging.{judged}
 use Rattle.figures.specs.Text.{plain, value, negative, unsigned, wellFormed}
 use Rattle.figures.proofs.Laws.Plain.{plain-digits}
+use Rattle.figures.proofs.Laws.Groups.{hold}
 use Rattle.figures.proofs.Laws.Sign.{digits-unsigned, unsigned-plain, formed-unsigned}
 
 -- a value with a limit, where no sign is admitted: a plain text, and any other
@@ -49,3 +51,7 @@ passed f r size limit e = go f r (ltb limit size) refl e
 
 pub none-refused : {f r : Bool} {size limit : ℕ} → Passed f r size limit → judged (not f) r (ltb limit size) ≡ 0
 none-refused {f} {r} {size} {limit} a = rw (a .formed, a .sign, le-ltb limit size (a .within))
+
+-- a text of at most k * 3 digits has a value that k groups hold
+pub passed-held : {isRefused : Bool} (k : ℕ) (t : List ℕ) → Passed (wellFormed t) isRefused (length (unsigned t)) (k * 3) → value (unsigned t) < 1000 ^ k
+passed-held k t a = hold k (unsigned t) (plain-digits (unsigned t) (formed-unsigned t (a .formed))) (a .within)

@@ -1,0 +1,33 @@
+-- `fr_calls::measure_nth` meets its contract: planned as `spell_ordinal` plans.
+-- Assumes nothing.
+use mathlib.Core.Path.{ap, _∙_}
+use borrow.Author.Needs.{needs}
+use Rattle.base.specs.Measure.{measureOf}
+use Rattle.figures.specs.Text.{unsigned}
+use Rattle.figures.proofs.Laws.Plain.{plain-digits}
+use Rattle.figures.proofs.Laws.Sign.{formed-unsigned}
+use Rattle.groups.proofs.Held.{Held, held-text}
+use Rattle.fr.specs.Ordinal.{nthPhrase}
+use Rattle.fr_calls.proofs.measure_nth.Statement.{statement}
+use Rattle.fr_calls.proofs.measure_nth.Tie as tie
+
+-- the text's groups
+grouped : (c : tie.After-count) → Held 34 (unsigned (c .before .before .before .before .before .args .text .now)) (c .before .groups34 .result) (c .count .result)
+grouped c =
+    let s = c .before .before .before .before .before in
+    held-text 34 (s .args .text .now) _ _ _ (s .pre .1) (s .pre .2) (c .before .before .after-sign .ensures) (c .before .groups34 .ensures) (c .count .ensures)
+
+plan-ordinal-requires : tie.Need-plan-ordinal-requires
+plan-ordinal-requires c κs =
+    let g = grouped (c .before .before .before) in
+    (c .before .before .before .before .before .before .texts .ensures, c .before .before .before .before .before .before .before .before .pre .0, (g .size, g .below), g .top, search needs)
+
+returns : tie.Need-returns
+returns c = c .measure .ensures ∙ ap measureOf (c .before .before .plan-ordinal .ensures .1 ∙ ap (nthPhrase _) (grouped (c .before .before .before .before .before .before) .number))
+
+pub measure-nth-spec : {M : Type 1} → statement M
+measure-nth-spec =
+    tie.close
+    (tie.spec (λ c κs. search needs) (λ c κs. search needs)
+    (λ c κs. rw (c .after-sign .ensures) (plain-digits (unsigned (c .before .before .before .args .text .now)) (formed-unsigned (c .before .before .before .args .text .now) (c .before .before .before .pre .1))))
+    (λ c κs. search needs) (λ c. search needs) plan-ordinal-requires (λ c. search needs) (λ c κs. search needs) returns)
