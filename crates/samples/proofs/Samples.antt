@@ -3,6 +3,7 @@
 use mathlib.Core.Path.{refl, sym}
 use mathlib.Core.Bool.{false}
 use mathlib.Core.List.{[], _∷_, flatten}
+use Rattle.base.specs.Measure.{spaces}
 use Rattle.base.specs.Utf8.{utf8, form1, form2, form3}
 use Rattle.base.proofs.Same.{same-not}
 use Rattle.settings.specs.Settings.{accusative, inCase, ukrainianRanges, frenchRanges}
@@ -14,9 +15,10 @@ use Rattle.fr_meanings.specs.Meanings.{shifts as frShifts, table as frTable, me
 use Rattle.cardinals.specs.Cardinal.{groupsBelow, cardinalWords, cardinalPhrase}
 use Rattle.uk.specs.UkTables.{zeros, gendered, units, teensBases, teensFlexions, tens, hundreds, thousandFlexions, megaBases, megaFlexions}
 use Rattle.uk.specs.Ukrainian.{unitForm, teenForm, ukrainianDigits, scaleEnding, scaleNoun, ukrainianGroup, ukrainian}
-use Rattle.uk_ordinal.specs.OrdinalTables.{ordinalZeroBase, oneBase, ordinalUnitBases, ordinalTensBases, hundredBase, adjectiveHardFlexionsSingular, adjectiveHardFlexionsPlural, adjectiveSoftFlexionsSingular, adjectiveSoftFlexionsPlural, year}
+use Rattle.uk_ordinal.specs.OrdinalTables.{ordinalZeroBase, oneBase, ordinalUnitBases, ordinalTensBases, hundredBase, adjectiveHardFlexionsSingular, adjectiveHardFlexionsPlural, adjectiveSoftFlexionsSingular, adjectiveSoftFlexionsPlural, year, ordinalHardFlexionsSingularShort}
 use Rattle.uk_ordinal.specs.Ordinal.{flexion, compoundDigits, compoundWord, plainWords, lowestWords, ordinalAt, ordinalFrom, ordinalWords}
 use Rattle.uk_ordinal.specs.Year.{yearNoun, yearWords}
+use Rattle.uk_ordinal.specs.DigitOrdinal.{shortFlexion, digitOrdinal}
 use Rattle.uk_money.specs.NounTables.{noun2stGroupHardDeclensions, noun2stGroupSoftDeclensions, noun1stGroupSoftDeclensionsVowel, noun1stGroupHardDeclensions, adjectiveHardMasculine, hryvnias, kopiykas}
 use Rattle.uk_money.specs.Nouns.{endings, formOf, nameForms, agreedName}
 use Rattle.uk_money.specs.Currencies.{currencies}
@@ -41,7 +43,7 @@ unfolding form1 form2 form3 zeros gendered units teensBases teensFlexions tens h
 ukrainianRules = tt
 
 ordinalRules : Unit {0}
-unfolding ukrainianRules ordinalZeroBase oneBase ordinalUnitBases ordinalTensBases hundredBase adjectiveHardFlexionsSingular adjectiveHardFlexionsPlural adjectiveSoftFlexionsSingular adjectiveSoftFlexionsPlural year flexion compoundDigits compoundWord plainWords lowestWords ordinalAt ordinalFrom ordinalWords yearNoun yearWords flatten
+unfolding ukrainianRules ordinalZeroBase oneBase ordinalUnitBases ordinalTensBases hundredBase adjectiveHardFlexionsSingular adjectiveHardFlexionsPlural adjectiveSoftFlexionsSingular adjectiveSoftFlexionsPlural year flexion compoundDigits compoundWord plainWords lowestWords ordinalAt ordinalFrom ordinalWords yearNoun yearWords flatten shortFlexion digitOrdinal ordinalHardFlexionsSingularShort
 ordinalRules = tt
 
 moneyRules : Unit {0}
@@ -73,11 +75,12 @@ a & b = (a, b)
 
 -- every line of the table holds, line by line; of `п'ять`, in the last one, the reader makes 0: an ASCII apostrophe ends a word, and `п` means nothing
 pub samples-hold : All sampleTable
-unfolding ordinalRules moneyRules frenchRules ukrainianReader
+unfolding ordinalRules moneyRules frenchRules ukrainianReader spaces
 samples-hold =
     (refl, refl) & (refl, refl) & (refl, refl) & (refl, refl) & (refl, refl) & (refl, refl) & (refl, refl) & (refl, refl) & (refl, refl) & (refl, refl)
     & (refl, refl) & (refl, refl) & (refl, refl) & refl & refl & refl & refl & refl & refl
     & no-sentence (made usual (in-range (ukrainianRanges usual) refl) _) (thousands _ _ refl 20) refl
+    & refl & refl & refl & refl & refl & refl & refl & refl
     & (refl, refl) & (refl, refl) & (refl, refl, same-not _ _ refl) & (refl, refl, same-not _ _ refl) & (refl, refl, same-not _ _ refl) & (refl, refl, same-not _ _ refl)
     & no-sentence (made (inCase accusative usual) (in-range (ukrainianRanges (inCase accusative usual)) refl) _) (thousands _ _ refl 20) refl
     & (refl, refl, same-not _ _ refl) & (refl, refl, same-not _ _ refl) & un-mille & (refl, refl, same-not _ _ refl)

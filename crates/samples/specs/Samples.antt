@@ -1,4 +1,4 @@
--- 01's proved samples: the table, and what it says of each line ("Proved samples").
+-- 01's proved samples: the table, and what it says of each line ("Proved samples"); and samples of what is measured (02, W1).
 -- Assumes nothing.
 use Prim.Native.Nat.{ℕ}
 use Prim.Native.String.{String}
@@ -7,11 +7,12 @@ use mathlib.Core.List.{List, [], _∷_, _++_}
 use lib.IntN.{pos, negℤ}
 use Rattle.base.specs.Utf8.{utf8}
 use Rattle.base.specs.Answer.{malformed, wrongSign, tooLarge, noSentence, Spelling, refused}
+use Rattle.base.specs.Measure.{measured}
 use Rattle.base.specs.Reading.{Reading, Replies}
 use Rattle.settings.specs.Settings.{masculine, feminine, singular, nominative, genitive, dative, accusative, instrumental, locative, oldSpelling, newSpelling, regionFR, regionCH, ukrainianSettings, frenchSettings, inGender, inCase}
 use Rattle.settings.specs.declared.Settings.{Settings}
 use Rattle.uk_calls.specs.UkCardinals.{ukToCardinal, ukFromCardinal}
-use Rattle.uk_ordinal_calls.specs.UkOrdinals.{ukToOrdinal, ukToYear}
+use Rattle.uk_ordinal_calls.specs.UkOrdinals.{ukToOrdinal, ukToOrdinalNum, ukToYear}
 use Rattle.uk_money_calls.specs.MoneyCalls.{ukToCurrency}
 use Rattle.fr_calls.specs.FrCalls.{frToCardinal, frToOrdinal, frFromCardinal}
 
@@ -38,14 +39,15 @@ frCard S t = frToCardinal S (utf8 t)
 abbrev pub frOrd : Settings → String → Spelling
 frOrd S t = frToOrdinal S (utf8 t)
 
--- a line of the table: a call's phrase; its refusal; that it is not refused; its phrase beside one that it does not say ("Errors of habit"); and a phrase
--- that a reading call refuses
+-- a line of the table: a call's phrase; its refusal; that it is not refused; its phrase beside one that it does not say ("Errors of habit"); a phrase
+-- that a reading call refuses; and a call's measure: the refusal, the words, the length
 pub data Sample : Type 1 where
   spells : Spelling → String → Sample
   refuses : Spelling → ℕ → Sample
   passes : Spelling → Sample
   spellsNot : Spelling → String → String → Sample
   readsNot : Reading → String → Sample
+  measures : Spelling → ℕ → ℕ → ℕ → Sample
 
 -- what a line says
 abbrev pub Holds : Sample → Type 0
@@ -54,6 +56,7 @@ Holds (refuses S n) = S .refusal ≡ n
 Holds (passes S) = S .refusal ≡ 0
 Holds (spellsNot S p q) = (S .refusal ≡ 0) × (S .phrase ≡ utf8 p) × (S .phrase ≡ utf8 q → ⊥)
 Holds (readsNot R s) = (xs : List ℕ) → Replies R (utf8 s) xs (refused noSentence 0)
+Holds (measures S refusal words length) = measured S ≡ record { refusal = refusal; words = words; length = length }
 
 -- every line holds
 abbrev pub All : List Sample → Type 0
@@ -101,6 +104,19 @@ habits =
     spellsNot (ukCard usual "5") "пʼять" "п'ять" ∷
     readsNot (ukFromCardinal usual) "п'ять" ∷ []
 
+-- words and lengths: `deux cents`, reformed `deux-cents`, `quatre-vingts`, `soixante et onze`; `один новий шекель`, whose noun is two words; `сорок
+-- четвертий рік до н.е.`; `42-го`; and a refusal
+abbrev pub rooms : List Sample
+rooms =
+    measures (frCard usualFrench "200") 0 2 10 ∷
+    measures (frCard (frenchSettings masculine newSpelling regionFR) "200") 0 1 10 ∷
+    measures (frCard usualFrench "80") 0 1 13 ∷
+    measures (frCard usualFrench "71") 0 3 16 ∷
+    measures (ukMoney usual "ILS" "1") 0 3 32 ∷
+    measures (ukToYear usual (negℤ (pos 44))) 0 5 48 ∷
+    measures (ukToOrdinalNum (inCase genitive usual) (utf8 "42")) 0 1 7 ∷
+    measures (ukMoney usual "UAH" "-0.50") wrongSign 0 0 ∷ []
+
 -- the whole table
 abbrev pub sampleTable : List Sample
-sampleTable = samples ++ habits
+sampleTable = samples ++ (rooms ++ habits)
