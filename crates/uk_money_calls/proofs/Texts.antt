@@ -42,7 +42,7 @@ module _ (t : List ℕ) (a : Admitted (amountRefusals t)) where
   whole-formed = formed-plain (wholeText t) plain-whole whole-sign
 
   -- within the limit there are at most 20 digits
-  pub whole-few : length (unsigned (wholeText t)) ≤ 20
+  whole-few : length (unsigned (wholeText t)) ≤ 20
   whole-few = plain-size (unsigned (wholeText t)) 20 plain-whole (omega arith) (omega (arith, admits t a .within))
 
   -- s being its digits, their groups have at most 7 orders

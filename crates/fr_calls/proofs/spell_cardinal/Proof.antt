@@ -2,13 +2,11 @@
 -- Assumes nothing.
 use borrow.Author.Needs.{needs}
 use native.Mathlib.Omega.{arith}
-use mathlib.Core.Path.{_≡_, refl, ap, _∙_}
-use lib.ListN.{length}
-use Rattle.figures.specs.Text.{plain, value, unsigned}
-use Rattle.figures.specs.Groups.{total}
+use mathlib.Core.Path.{_≡_, refl, _∙_}
+use Rattle.figures.specs.Text.{unsigned}
 use Rattle.figures.proofs.Laws.Plain.{plain-digits}
 use Rattle.figures.proofs.Laws.Sign.{formed-unsigned}
-use Rattle.groups.proofs.Held.{Held, held}
+use Rattle.groups.proofs.Held.{Held, held-text}
 use Rattle.plan.specs.Phrase.{phraseOf}
 use Rattle.plan.specs.Plan.{says}
 use Rattle.fr.specs.Pool.{frPool}
@@ -17,23 +15,19 @@ use Rattle.fr_calls.specs.FrCalls.{frToCardinal}
 use Rattle.fr_calls.proofs.spell_cardinal.Statement.{statement}
 use Rattle.fr_calls.proofs.spell_cardinal.Tie as tie
 
--- the text's groups, and their number
-grouped : (c : tie.After-count) → Held 34 (c .before .before .after-sign .result .now) (c .before .groups34 .result) (c .count .result)
+-- the text's groups
+grouped : (c : tie.After-count) → Held 34 (unsigned (c .before .before .before .before .before .before .before .args .text .now)) (c .before .groups34 .result) (c .count .result)
 grouped c =
     let s = c .before .before .before .before .before .before .before in
-    let d = c .before .before .after-sign .ensures in
-    held 34 _ _ _ (ap plain d ∙ formed-unsigned (s .args .text .now) (s .pre .1)) (omega (arith, ap length d, s .pre .2)) (c .before .groups34 .ensures) (c .count .ensures)
-
-number-is : (c : tie.After-count) → total (c .before .groups34 .result) ≡ value (unsigned (c .before .before .before .before .before .before .before .args .text .now))
-number-is c = grouped c .number ∙ ap value (c .before .before .after-sign .ensures)
+    held-text 34 (s .args .text .now) _ _ _ (s .pre .1) (s .pre .2) (c .before .before .after-sign .ensures) (c .before .groups34 .ensures) (c .count .ensures)
 
 phrase-is : (c : tie.After-plan-cardinal) → let a = c .before .before .before .before .before .before .before .before .before .before .args in phraseOf (says frPool (c .plan-cardinal .last .1 .1 .1 .1 .1 .0) (c .plan-cardinal .result)) ≡ frToCardinal (a .settings) (a .text .now) .phrase
-phrase-is c = c .plan-cardinal .ensures .1 ∙ rw (c .before .before .before .before .before .before .is-negative .ensures, number-is (c .before .before .before)) refl
+phrase-is c = c .plan-cardinal .ensures .1 ∙ rw (c .before .before .before .before .before .before .is-negative .ensures, grouped (c .before .before .before) .number) refl
 
 plan-cardinal-requires : tie.Need-plan-cardinal-requires
 plan-cardinal-requires c κs =
     let g = grouped (c .before .before) in
-    ((c .before .before .before .before .before .before .before .before .before .pre .0, g .top .zeros, g .few, search needs), ((g .size, g .below), rw (number-is (c .before .before)) (c .before .before .before .before .before .before .is-zero .ensures)))
+    ((c .before .before .before .before .before .before .before .before .before .pre .0, g .top .zeros, g .few, search needs), ((g .size, g .below), rw (g .number) (c .before .before .before .before .before .before .is-zero .ensures)))
 
 pub spell-cardinal-spec : {M : Type 1} → statement M
 spell-cardinal-spec =

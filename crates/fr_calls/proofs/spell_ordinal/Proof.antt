@@ -3,11 +3,10 @@
 use borrow.Author.Needs.{needs}
 use native.Mathlib.Omega.{arith}
 use mathlib.Core.Path.{_≡_, ap, _∙_}
-use lib.ListN.{length}
-use Rattle.figures.specs.Text.{plain, value, unsigned}
+use Rattle.figures.specs.Text.{unsigned}
 use Rattle.figures.proofs.Laws.Plain.{plain-digits}
 use Rattle.figures.proofs.Laws.Sign.{formed-unsigned}
-use Rattle.groups.proofs.Held.{Held, held}
+use Rattle.groups.proofs.Held.{Held, held-text}
 use Rattle.plan.specs.Phrase.{phraseOf}
 use Rattle.plan.specs.Plan.{says}
 use Rattle.fr.specs.Pool.{frPool}
@@ -18,16 +17,13 @@ use Rattle.fr_calls.proofs.spell_ordinal.Statement.{statement}
 use Rattle.fr_calls.proofs.spell_ordinal.Tie as tie
 
 -- the text's groups
-grouped : (c : tie.After-count) → Held 34 (c .before .before .after-sign .result .now) (c .before .groups34 .result) (c .count .result)
+grouped : (c : tie.After-count) → Held 34 (unsigned (c .before .before .before .before .before .before .args .text .now)) (c .before .groups34 .result) (c .count .result)
 grouped c =
     let s = c .before .before .before .before .before .before in
-    let d = c .before .before .after-sign .ensures in
-    held 34 _ _ _ (ap plain d ∙ formed-unsigned (s .args .text .now) (s .pre .1)) (omega (arith, ap length d, s .pre .2)) (c .before .groups34 .ensures) (c .count .ensures)
+    held-text 34 (s .args .text .now) _ _ _ (s .pre .1) (s .pre .2) (c .before .before .after-sign .ensures) (c .before .groups34 .ensures) (c .count .ensures)
 
 phrase-is : (c : tie.After-plan-ordinal) → let a = c .before .before .before .before .before .before .before .before .before .before .args in phraseOf (says frPool (c .plan-ordinal .last .1 .1 .1 .1 .0) (c .plan-ordinal .result)) ≡ frToOrdinal (a .settings) (a .text .now) .phrase
-phrase-is c =
-    let s = c .before .before .before .before .before .before .before .before .before .before in
-    c .plan-ordinal .ensures .1 ∙ ap (nthPhrase (s .args .settings)) (grouped (c .before .before .before .before) .number ∙ ap value (c .before .before .before .before .before .before .after-sign .ensures))
+phrase-is c = c .plan-ordinal .ensures .1 ∙ ap (nthPhrase _) (grouped (c .before .before .before .before) .number)
 
 plan-ordinal-requires : tie.Need-plan-ordinal-requires
 plan-ordinal-requires c κs =
