@@ -8,7 +8,7 @@ ghost use Prim.Native.Nat.{ℕ, _+_, _*_, _≤_, _<_};
 ghost use lib.ListN.{length as lengthOf};
 ghost use Rattle.base.specs.Measure.{measureOf};
 ghost use Rattle.base.specs.Room.{longestPiece};
-ghost use Rattle.words.specs.Extents.{Counted, Extends};
+ghost use Rattle.words.specs.Extents.{Countable, Counted, Extends};
 ghost use Rattle.plan.specs.Phrase.{following, phraseOf};
 ghost use Rattle.plan.specs.Plan.{pieceOf, pieces, says};
 
@@ -17,7 +17,7 @@ const SPACE: u32 = 32;
 
 // The extent of a piece with its separator.
 fn piece_extent(unspaced: usize, counts: &[u8], code: u32) -> Extent
-    requires { ⌜ (0 < lengthOf (now counts)) × (unspaced + lengthOf (now counts) ≤ 65536) ⌝ }
+    requires { ⌜ Countable unspaced (now counts) ⌝ }
     ensures { λ r. ⌜ ((pool : List ℕ) → Counted pool unspaced (now (counts .entry)) → Extends (following (pieceOf pool code ∷ [])) r) × (r .spaces ≤ 256) × (r .length ≤ longestPiece) ⌝ }
 {
     let text = words::extents::extent_at(unspaced, counts, code / SEPARATORS);
@@ -39,7 +39,7 @@ fn piece_extent(unspaced: usize, counts: &[u8], code: u32) -> Extent
 
 // The extent of pieces that follow others.
 fn following_extent(unspaced: usize, counts: &[u8], plan: &[u32]) -> Extent
-    requires { ⌜ (0 < lengthOf (now counts)) × (unspaced + lengthOf (now counts) ≤ 65536) × (lengthOf (now plan) ≤ 1000) ⌝ }
+    requires { ⌜ Countable unspaced (now counts) × (lengthOf (now plan) ≤ 1000) ⌝ }
     ensures { λ r. ⌜ ((pool : List ℕ) → Counted pool unspaced (now (counts .entry)) → Extends (following (pieces pool (now (plan .entry)))) r) × (r .spaces ≤ 256 * lengthOf (now (plan .entry))) × (r .length ≤ longestPiece * lengthOf (now (plan .entry))) ⌝ }
 {
     let mut spaces: u32 = 0;
@@ -56,7 +56,7 @@ fn following_extent(unspaced: usize, counts: &[u8], plan: &[u32]) -> Extent
 
 // The measure of what the first n pieces of a plan say.
 pub fn measure(unspaced: usize, counts: &[u8], plan: &[u32], n: usize) -> Measure
-    requires { ⌜ (0 < lengthOf (now counts)) × (unspaced + lengthOf (now counts) ≤ 65536) × (n ≤ lengthOf (now plan)) × (n ≤ 1000) ⌝ }
+    requires { ⌜ Countable unspaced (now counts) × (n ≤ lengthOf (now plan)) × (n ≤ 1000) ⌝ }
     ensures { λ r. ⌜ ((pool : List ℕ) → Counted pool unspaced (now (counts .entry)) → r ≡ measureOf (phraseOf (says pool (now (plan .entry)) n))) ⌝ }
 {
     if n == 0 {

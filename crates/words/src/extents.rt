@@ -7,8 +7,9 @@ ghost use Prim.Native.Nat.{ℕ, _+_, _-_, _≤_, _<_};
 ghost use lib.ListN.{length as lengthOf, take, drop};
 ghost use Rattle.base.specs.Measure.{spaces as spacesIn};
 ghost use Rattle.words.specs.Part.{part};
-ghost use Rattle.words.specs.Extents.{Counted, Extends};
+ghost use Rattle.words.specs.Extents.{Countable, Counted, Extends};
 
+// The spaces and the bytes of a text.
 pub struct Extent {
     pub spaces: u32,
     pub length: usize,
@@ -25,7 +26,7 @@ fn spaces_before(unspaced: usize, counts: &[u8], at: usize) -> u32
     counts[at - unspaced] as u32
 }
 
-// The extent of the bytes from start to end. Where the counts are a pool's, none is below one before it.
+// The extent of the bytes from start to end. No count of a pool is below one before it: the test is there for the difference alone.
 fn spaced_extent(unspaced: usize, counts: &[u8], start: usize, end: usize) -> Extent
     requires { ⌜ (start ≤ end) × (end < unspaced + lengthOf (now counts)) ⌝ }
     ensures { λ r. ⌜ ((pool : List ℕ) → Counted pool unspaced (now (counts .entry)) → Extends (take (end - start) (drop start pool)) r) × (r .spaces < 256) × (r .length ≡ end - start) ⌝ }
@@ -44,7 +45,7 @@ fn spaced_extent(unspaced: usize, counts: &[u8], start: usize, end: usize) -> Ex
 
 // The extent of the text at a place. A text without a space is known by where it ends; one behind the pool is empty.
 pub fn extent_at(unspaced: usize, counts: &[u8], place: u32) -> Extent
-    requires { ⌜ (0 < lengthOf (now counts)) × (unspaced + lengthOf (now counts) ≤ 65536) ⌝ }
+    requires { ⌜ Countable unspaced (now counts) ⌝ }
     ensures { λ r. ⌜ ((pool : List ℕ) → Counted pool unspaced (now (counts .entry)) → Extends (part pool place) r) × (r .spaces < 256) × (r .length < 40) ⌝ }
 {
     let start = 2 * (place / LONGER) as usize;

@@ -47,7 +47,7 @@ pub following-extent-spec : {M : Type 1} → statement M
 following-extent-spec =
     tie.close
     (tie.spec Inv-loop μ-loop
-    (λ c. ((λ pool k. none-extends pool (c .before .before .args .plan .now)), omega arith, omega arith, omega arith, c .before .before .pre .2))
+    (λ c. ((λ pool k. none-extends pool (c .before .before .args .plan .now)), omega arith, omega arith, omega arith, c .before .before .pre .1))
     (λ c. search needs) (λ c. search needs) (λ c κs. search needs)
     (λ c. let inv = c .before .before .before .before .loop .inv in omega (arith, inv .1, inv .2, inv .4, c .before .piece-extent .ensures .1))
     (λ c. let inv = c .before .before .before .before .before .loop .inv in omega (arith, inv .1, inv .3, inv .4, c .before .before .piece-extent .ensures .2))

@@ -17,7 +17,7 @@ returns-2 c pool k =
     let s = c .before .before .before .before .before .before .before .before .before .before .before .before in
     let first = c .before .before .before .before .before .before .before .extent-at .ensures in
     let others = c .before .before .before .before .before .following-extent .ensures in
-    let e = phrase-extends pool (s .args .plan .now) (s .args .n) (c .before .before .before .before .before .before .before .before .before .if1 .left) (s .pre .2) (first .0 pool k) (others .0 pool k) in
+    let e = phrase-extends pool (s .args .plan .now) (s .args .n) (c .before .before .before .before .before .before .before .before .before .if1 .left) (s .pre .1) (first .0 pool k) (others .0 pool k) in
     c .measure-of2 .ensures _ (e .spaced) (e .sized)
 
 pub measure-spec : {M : Type 1} → statement M
