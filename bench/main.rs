@@ -92,7 +92,7 @@ fn subjects_of(case: &Case) -> impl Iterator<Item = Subject> {
     library(case.kind, case.task).into_iter().chain(plain)
 }
 
-/// What is measured must be right: the library and plain C give the Rust's phrase, its text or its
+/// What is timed must be right: the library and plain C give the Rust's phrase, its text or its
 /// length.
 fn check(case: &Case) {
     let Room(out) = &mut Room::new();

@@ -29,7 +29,7 @@ struct Measure {
 }
 
 impl Measure {
-    /// The length; the words are taken too, so that no one leaves out their count.
+    /// The length; that there are words is looked at, so that their count cannot be left out.
     fn length(self) -> usize {
         assert!(self.refusal == 0 && self.words > 0, "refused {}", self.refusal);
         self.length

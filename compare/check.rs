@@ -1,4 +1,4 @@
-//! Asks one call and compares its refusal, its figures and every byte of its buffer.
+//! Asks one call and compares its refusal, its length, its words and every byte of its buffer.
 
 use crate::calls::{self, Answer, Measure};
 use crate::expect::{self, Expected};

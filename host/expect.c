@@ -71,22 +71,22 @@ static yokepear_answer (*const forms[2])(const struct request *, uint8_t *, size
 static yokepear_measure (*const measure_forms[2])(const struct request *) = {
     measure, measure_by_number};
 
-static void compare_measures(const struct request *r, yokepear_measure figures) {
+static void compare_measures(const struct request *r, yokepear_measure expected) {
   struct measuring *call = &r->call->measuring;
   for (int form = 0; form < 2; form++) {
     is_measuring = 1;
     yokepear_measure got = measure_forms[form](r);
     is_measuring = 0;
-    if (got.refusal == figures.refusal && got.words == figures.words &&
-        got.length == figures.length)
+    if (got.refusal == expected.refusal && got.words == expected.words &&
+        got.length == expected.length)
       continue;
     show("DIFFERENCE");
     printf("  yokepear_%s: answered %u, %u words, %zu bytes, expected %u, %u words, %zu bytes\n",
-           call->name, got.refusal, got.words, got.length, figures.refusal, figures.words,
-           figures.length);
+           call->name, got.refusal, got.words, got.length, expected.refusal, expected.words,
+           expected.length);
     exit(1);
   }
-  if (figures.refusal)
+  if (expected.refusal)
     call->done.refusals++;
   else
     call->done.answers++;
@@ -94,12 +94,12 @@ static void compare_measures(const struct request *r, yokepear_measure figures) 
 
 /* What the measuring call must give where the spelling call gives this. */
 static yokepear_measure measure_of(uint32_t refusal, const uint8_t *phrase, size_t length) {
-  yokepear_measure figures = {refusal, 0, 0};
-  if (refusal) return figures;
-  figures.words = 1;
-  for (size_t i = 0; i < length; i++) figures.words += phrase[i] == ' ';
-  figures.length = length;
-  return figures;
+  yokepear_measure expected = {refusal, 0, 0};
+  if (refusal) return expected;
+  expected.words = 1;
+  for (size_t i = 0; i < length; i++) expected.words += phrase[i] == ' ';
+  expected.length = length;
+  return expected;
 }
 
 static void measure_too(const struct request *r, uint32_t refusal, const uint8_t *phrase,
@@ -187,9 +187,9 @@ size_t answer_of(const struct request *r, uint8_t out[LARGE]) {
   return got.length;
 }
 
-void expect_measure(const struct request *r, yokepear_measure figures) {
+void expect_measure(const struct request *r, yokepear_measure expected) {
   asking = r;
-  compare_measures(r, figures);
+  compare_measures(r, expected);
   asking = 0;
 }
 

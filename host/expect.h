@@ -22,11 +22,11 @@ void expect_refusal(const struct request *request, uint32_t refusal);
 /* The answer in a large buffer, which must not be a refusal; its length. */
 size_t answer_of(const struct request *request, uint8_t out[LARGE]);
 
-/* The measuring call of the request's spelling call must give these figures. */
-void expect_measure(const struct request *request, yokepear_measure figures);
+/* The measuring call of the request's spelling call must give this. */
+void expect_measure(const struct request *request, yokepear_measure expected);
 
 /*
- * The measuring call must give the figures of what is said in a large buffer, and the phrase must
+ * The measuring call must give the measure of what is said in a large buffer, and the phrase must
  * fill a buffer of the length measured and be refused in one of a byte less. Far faster than
  * expect_answer, for many requests.
  */

@@ -17,11 +17,11 @@ static ucontext_t here, there;
 static const struct request *asking;
 static size_t out_length;
 static yokepear_answer answer;
-static yokepear_measure extent;
+static yokepear_measure measured;
 
 /* On numbers: that is the library's own call, with nothing of the header between. */
 static void ask_it(void) { answer = ask_by_number(asking, out, out_length); }
-static void measure_it(void) { extent = measure_by_number(asking); }
+static void measure_it(void) { measured = measure_by_number(asking); }
 
 /* Which of them runs. */
 static void (*run)(void) = ask_it;

@@ -67,6 +67,12 @@ static int full_orders(const struct call *call) {
 /* Money is gone over in every currency, so that of its groups one in so many is taken. */
 enum { STRIDE = 37 };
 
+/* A reformed phrase is one word, as its joiners are hyphens. */
+static void test_one_word(const struct request *r) {
+  if (r->call->french && r->settings.fr.reformed)
+    expect_measure(r, (yokepear_measure){0, 1, measure(r).length});
+}
+
 /* Figures with one group at all orders from the one to below the other. */
 static void test_groups(struct request r, int from, int to, int negative) {
   char text[FIGURE_TEXT];
@@ -79,6 +85,7 @@ static void test_groups(struct request r, int from, int to, int negative) {
     if (is_money) f.hundredths = group % HUNDREDTHS;
     set_figure(&r, &f, text);
     expect_measured(&r);
+    test_one_word(&r);
   }
 }
 

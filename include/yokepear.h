@@ -33,9 +33,9 @@
  *   The answer stands at the front of `out`; the bytes after it are left as they were. A refusal
  *   changes nothing.
  *   A buffer of the YOKEPEAR_..._PHRASE or YOKEPEAR_..._TEXT bytes given with a call is always long
- *   enough, and the longest answer fills it. For an exact size, and for the count of words, ask the
- *   measuring call yokepear_.._measure_.. first, which is lent no buffer; refusal 7 reports the
- *   length needed too.
+ *   enough, and the longest answer fills it. For a phrase's exact size, and for the count of its
+ *   words, ask the measuring call yokepear_.._measure_.. first, which is lent no buffer. For a
+ *   text's, ask the reading call with out_length 0: refusal 7 reports the length needed.
  */
 #ifndef YOKEPEAR_H
 #define YOKEPEAR_H

@@ -185,7 +185,7 @@ def pool_source(head, pool, measured):
     sizes = 'pub const SIZE: usize = %d;\n' % len(pool.bytes)
     if measured:
         unspaced = 'SIZE' if pool.unspaced == len(pool.bytes) else str(pool.unspaced)
-        sizes += '\n// How many of its bytes, from the first on, have no space among them; how many stand before each of the others, and before its end.\n'
+        sizes += '\n// How many of its bytes, from the first on, have no space; how many spaces stand before each of the others, and before its end.\n'
         sizes += 'pub const UNSPACED: usize = %s;\n\n' % unspaced
         sizes += byte_constant('COUNTS', str(len(pool.counts())), pool.counts())
     return '%s\n%s\n%s' % (head, sizes, byte_constant('POOL', 'SIZE', pool.bytes))
@@ -275,7 +275,7 @@ def outputs():
     for crate, name, what, pool, measured in [('uk', 'ukPool', 'The Ukrainian texts', UK_POOL, True),
                                               ('uk_ordinal', 'shortPool', 'The endings of digit ordinals', SHORT_POOL, False),
                                               ('fr', 'frPool', 'The French texts', FR_POOL, True)]:
-        yield '%s/src/pool.rt' % crate, pool_source('// %s, those that overlap sharing their bytes. Made by tools/gen_words.py.' % what, pool, measured)
+        yield '%s/src/pool.rt' % crate, pool_source('// %s, those that overlap sharing their bytes; `_` brings the next to an even byte. Made by tools/gen_words.py.' % what, pool, measured)
         yield '%s/specs/Pool.antt' % crate, pool_spec('-- %s, those that overlap sharing their bytes: it ties the code to the tables. Made by tools/gen_words.py.' % what, name, pool)
 
 

@@ -18,7 +18,7 @@ by-refusal zero p {r} {xs} {ys} a = go (decLt (length xs) (length p))
     go : Dec (length xs < length p) → Foretells (measureUnless 0 p) r xs ys
     go (yes h) =
         let b = rw (lt-ltb _ _ h) at a in
-        record { ifSpelled = λ z k. absurd (omega arith); ifSmall = λ k. (b .reported, b .sized); ifRefused = λ z. absurd (z refl) }
+        record { ifSpelled = λ z k. absurd (omega arith); ifSmall = λ k. (b .reported, b .sized, b .held); ifRefused = λ z. absurd (z refl) }
     go (no h) =
         let b = rw (le-ltb (length xs) (length p) (omega arith)) at a in
         record {

@@ -1,5 +1,6 @@
 pub mod Fronts
 pub mod Measures
+pub mod Unspaced
 pub mod Replies
 pub mod Foretold
 pub mod Closing

@@ -12,7 +12,7 @@ use Rattle.tables.proofs.Tests.{clash-of, both-hold, all, all-at}
 use Rattle.base.specs.Signs.{space}
 use Rattle.base.specs.Utf8.{form1, form2, form3}
 use Rattle.base.specs.Join.{Word, spacedBy, joinedBy}
-use Rattle.base.specs.Divide.{toFirst, divided, AllSome}
+use Rattle.base.specs.Divide.{toFirst, divided, NoneEmpty}
 use Rattle.base.specs.Measure.{spaces}
 
 -- a text has one word more than spaces
@@ -44,8 +44,8 @@ tested e = record { test = e }
 abbrev pub Solid : List ℕ → Type 0
 Solid t = Runs false t
 
-abbrev pub Ending : List ℕ → Type 0
-Ending t = Runs true t
+abbrev pub Trails : List ℕ → Type 0
+Trails t = Runs true t
 
 -- its first byte, and the others
 pub first-runs : {begun : Bool} {b : ℕ} {s : List ℕ} → Runs begun (b ∷ s) → ((begun || not (eqb b space)) ≡ true) × Runs (not (eqb b space)) s
@@ -57,23 +57,23 @@ pub next-runs : {begun : Bool} {b : ℕ} {s : List ℕ} → (begun || not (eqb b
 next-runs e h = tested (rw e (h .test))
 
 -- the parts of a solid text are some
-some-more : (b : ℕ) (ls : List (List ℕ)) → AllSome ls → AllSome (toFirst b ls)
+some-more : (b : ℕ) (ls : List (List ℕ)) → NoneEmpty ls → NoneEmpty (toFirst b ls)
 some-more b [] p = (omega arith, tt)
 some-more b (l ∷ ls) p = (omega arith, p .1)
 
-abbrev PartsSome : List ℕ → Type 0
-PartsSome t = (Solid t → AllSome (divided space t)) × ((b : ℕ) → Ending t → AllSome (toFirst b (divided space t)))
+abbrev PartsNotEmpty : List ℕ → Type 0
+PartsNotEmpty t = (Solid t → NoneEmpty (divided space t)) × ((b : ℕ) → Trails t → NoneEmpty (toFirst b (divided space t)))
 
-parts-some : (t : List ℕ) → PartsSome t
+parts-some : (t : List ℕ) → PartsNotEmpty t
 unfolding divided
 parts-some [] = (λ h. clash-of (h .test), λ b h. (omega arith, tt))
 parts-some (c ∷ s) = go (eqb c space) refl (parts-some s)
   where
-    go : (d : Bool) → eqb c space ≡ d → PartsSome s → PartsSome (c ∷ s)
+    go : (d : Bool) → eqb c space ≡ d → PartsNotEmpty s → PartsNotEmpty (c ∷ s)
     go true e p = rw e (λ h. clash-of (rw e at (h .test)), λ b h. (omega arith, p .0 (rw e at (first-runs h .1))))
     go false e p = rw e (λ h. p .1 c (rw e at (first-runs h .1)), λ b h. some-more b (toFirst c (divided space s)) (p .1 c (rw e at (first-runs h .1))))
 
-pub solid-parts : {t : List ℕ} → Solid t → AllSome (divided space t)
+pub solid-parts : {t : List ℕ} → Solid t → NoneEmpty (divided space t)
 solid-parts {t} h = parts-some t .0 h
 
 pub solid-some : {t : List ℕ} → Solid t → 0 < length t
@@ -81,17 +81,17 @@ solid-some {t = []} h = clash-of (h .test)
 solid-some {t = b ∷ s} h = omega arith
 
 -- one text behind another
-pub ends : {t : List ℕ} → Solid t → Ending t
+pub ends : {t : List ℕ} → Solid t → Trails t
 ends {t = []} h = clash-of (h .test)
 ends {t = b ∷ s} h = next-runs refl (first-runs h .1)
 
-pub followed : {begun : Bool} {a b : List ℕ} → Runs begun a → Ending b → Runs begun (a ++ b)
+pub followed : {begun : Bool} {a b : List ℕ} → Runs begun a → Trails b → Runs begun (a ++ b)
 followed {begun = true} {a = []} p q = q
 followed {begun = false} {a = []} p q = clash-of (p .test)
 followed {a = c ∷ a} p q = let r = first-runs p in next-runs (r .0) (followed (r .1) q)
 
 -- and behind a joiner, a space or another byte
-pub behind : (j : ℕ) {t : List ℕ} → Solid t → Ending (j ∷ t)
+pub behind : (j : ℕ) {t : List ℕ} → Solid t → Trails (j ∷ t)
 behind j {t} h = next-runs refl (go (eqb j space))
   where
     go : (d : Bool) → Runs (not d) t
@@ -118,7 +118,7 @@ some-append us ws p q = (rw (length-append us ws) (omega arith), solids-append u
 
 -- joined, and run together
 module _ (j : ℕ) where
-  spaced-ends : (ws : List Word) → Solids ws → Ending (spacedBy j ws)
+  spaced-ends : (ws : List Word) → Solids ws → Trails (spacedBy j ws)
   spaced-ends [] p = tested refl
   spaced-ends (w ∷ ws) p = behind j (followed (p .0) (spaced-ends ws (p .1)))
 

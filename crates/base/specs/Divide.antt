@@ -17,6 +17,6 @@ divided d [] = [] ∷ []
 divided d (b ∷ s) = cond (eqb b d) ([] ∷ divided d s) (toFirst b (divided d s))
 
 -- every one of some parts has a byte
-abbrev pub AllSome : List (List ℕ) → Type 0
-AllSome [] = Unit
-AllSome (w ∷ ws) = (0 < length w) × AllSome ws
+abbrev pub NoneEmpty : List (List ℕ) → Type 0
+NoneEmpty [] = Unit
+NoneEmpty (w ∷ ws) = (0 < length w) × NoneEmpty ws

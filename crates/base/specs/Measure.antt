@@ -34,6 +34,6 @@ pub record Foretells (m : Measure) (r : Answer) (xs ys : List ℕ) : Type 0 wher
   -- "Both figures equal those of the phrase that the spelling call writes into a large enough buffer"
   pub ifSpelled : m .refusal ≡ 0 → m .length ≤ length xs → (r .number ≡ 0) × (r .length ≡ m .length) × (suc (spaces (take (r .length) ys)) ≡ m .words)
   -- into a smaller one it writes nothing, and reports that length
-  pub ifSmall : length xs < m .length → (r .number ≡ noRoom) × (r .length ≡ m .length)
+  pub ifSmall : length xs < m .length → (r .number ≡ noRoom) × (r .length ≡ m .length) × (ys ≡ xs)
   -- the refusals before 7 "come in their old order", those of the spelling call; "on a refusal they are 0"
   pub ifRefused : (m .refusal ≡ 0 → ⊥) → (r .number ≡ m .refusal) × (m .words ≡ 0) × (m .length ≡ 0)

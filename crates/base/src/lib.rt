@@ -45,7 +45,7 @@ pub struct Measure {
     pub length: usize,
 }
 
-// The measure of a phrase of so many spaces and this length.
+// The measure of a phrase of so many spaces, of which there may be one more, and this length.
 pub fn measure_of(spaces: u32, length: usize) -> Measure
     requires { ⌜ spaces < 4294967295 ⌝ }
     ensures { λ r. ⌜ ((phrase : List ℕ) → spaces ≡ spacesIn phrase → length ≡ lengthOf phrase → r ≡ measureOf phrase) ⌝ }

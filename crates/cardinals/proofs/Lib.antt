@@ -3,3 +3,4 @@ pub mod Arrays
 pub mod Guessed
 pub mod Inverse
 pub mod Words
+pub mod Unspaced

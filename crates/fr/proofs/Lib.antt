@@ -5,3 +5,4 @@ pub mod Stems
 pub mod Deciders
 pub mod Ordinals
 pub mod Words
+pub mod OneWord

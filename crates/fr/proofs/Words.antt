@@ -10,7 +10,7 @@ use lib.Dec.{eqb}
 use Rattle.base.specs.Join.{Word}
 use Rattle.base.specs.Signs.{letterE}
 use Rattle.base.specs.Utf8.{utf8, form1}
-use Rattle.base.proofs.Words.{Runs, tested, Solid, Ending, first-runs, next-runs, ends, followed, either, Solids, solids-append, at1}
+use Rattle.base.proofs.Words.{Runs, tested, Solid, Trails, first-runs, next-runs, ends, followed, either, Solids, solids-append, at1}
 use Rattle.settings.specs.declared.Settings.{Settings}
 use Rattle.cardinals.specs.Cardinal.{cardinalPhrase}
 use Rattle.cardinals.proofs.Words.{SolidWords, cardinal-solid}
@@ -54,11 +54,11 @@ module _ (S : Settings) where
   unit-word k u a b = either Solid (isUne S k u) (λ e. tested refl) (λ e. unit-solid (u - 1) (omega arith))
 
   -- what stands between two words has words on both sides
-  linked : (t u : ℕ) {w : Word} → Solid w → Ending (link S t u ++ w)
+  linked : (t u : ℕ) {w : Word} → Solid w → Trails (link S t u ++ w)
   unfolding link
   linked t u {w} p = go (takesEt S t u) (isReformed S)
     where
-      go : (e r : Bool) → Ending (cond e (cond r (utf8 "-et-") (utf8 " et ")) (utf8 "-") ++ w)
+      go : (e r : Bool) → Trails (cond e (cond r (utf8 "-et-") (utf8 " et ")) (utf8 "-") ++ w)
       go true true = tested (ends p .test)
       go true false = tested (p .test)
       go false r = tested (ends p .test)
@@ -95,7 +95,7 @@ module _ (S : Settings) where
   unfolding scaleWords scaleWord megaName
   scale-words zero g h = tt
   scale-words (suc k) g h =
-      (followed (mega-solid (suc k - 1) (omega arith)) (either Ending (isMille (suc k) || eqb g 1) (λ e. tested refl) (λ e. tested refl)), tt)
+      (followed (mega-solid (suc k - 1) (omega arith)) (either Trails (isMille (suc k) || eqb g 1) (λ e. tested refl) (λ e. tested refl)), tt)
 
   -- what French has for its cardinals
   french-solid : SolidWords (french S)

@@ -59,7 +59,7 @@ fn spell_cardinal(settings: Settings, text: &[u8], out: &mut [u8]) -> Answer
 }
 
 // Its measure.
-fn measure_number(settings: Settings, text: &[u8]) -> Measure
+fn cardinal_measure(settings: Settings, text: &[u8]) -> Measure
     requires { ⌜ Within (frenchRanges settings) × (wellFormed (now text) ≡ true) × (length (unsigned (now text)) ≤ 102) ⌝ }
     ensures { λ r. ⌜ r ≡ measureOf (frToCardinal settings (now (text .entry)) .phrase) ⌝ }
 {
@@ -89,7 +89,7 @@ fn spell_ordinal(settings: Settings, text: &[u8], out: &mut [u8]) -> Answer
 }
 
 // Its measure. The texts are made for the plan.
-fn measure_nth(settings: Settings, text: &[u8]) -> Measure
+fn ordinal_measure(settings: Settings, text: &[u8]) -> Measure
     requires { ⌜ Within (frenchRanges settings) × (wellFormed (now text) ≡ true) × (length (unsigned (now text)) ≤ 102) ⌝ }
     ensures { λ r. ⌜ r ≡ measureOf (frToOrdinal settings (now (text .entry)) .phrase) ⌝ }
 {
@@ -141,7 +141,7 @@ pub fn measure_cardinal(feminine: u32, reformed: u32, region: u32, text: &[u8]) 
 {
     let n = refuse_cardinal(feminine, reformed, region, text);
     if n == 0 {
-        measure_number(settings::french(feminine, reformed, region), text)
+        cardinal_measure(settings::french(feminine, reformed, region), text)
     } else {
         base::unmeasured(n)
     }
@@ -166,7 +166,7 @@ pub fn measure_ordinal(feminine: u32, reformed: u32, region: u32, text: &[u8]) -
 {
     let n = refuse_ordinal(feminine, reformed, region, text);
     if n == 0 {
-        measure_nth(settings::french(feminine, reformed, region), text)
+        ordinal_measure(settings::french(feminine, reformed, region), text)
     } else {
         base::unmeasured(n)
     }

@@ -8,17 +8,17 @@ ghost use Prim.Native.Nat.{ℕ, _+_, _*_, _≤_, _<_};
 ghost use lib.ListN.{length as lengthOf};
 ghost use Rattle.base.specs.Measure.{measureOf};
 ghost use Rattle.base.specs.Room.{longestPiece};
-ghost use Rattle.words.specs.Extents.{Countable, Counted, Extends};
+ghost use Rattle.words.specs.Extents.{Countable, SpacesCounted, Extends};
 ghost use Rattle.plan.specs.Phrase.{following, phraseOf};
 ghost use Rattle.plan.specs.Plan.{pieceOf, pieces, says};
 
 // The separator that parts words.
-const SPACE: u32 = 32;
+const SPACE: u32 = b' ' as u32;
 
 // The extent of a piece with its separator.
 fn piece_extent(unspaced: usize, counts: &[u8], code: u32) -> Extent
     requires { ⌜ Countable unspaced (now counts) ⌝ }
-    ensures { λ r. ⌜ ((pool : List ℕ) → Counted pool unspaced (now (counts .entry)) → Extends (following (pieceOf pool code ∷ [])) r) × (r .spaces ≤ 256) × (r .length ≤ longestPiece) ⌝ }
+    ensures { λ r. ⌜ ((pool : List ℕ) → SpacesCounted pool unspaced (now (counts .entry)) → Extends (following (pieceOf pool code ∷ [])) r) × (r .spaces ≤ 256) × (r .length ≤ longestPiece) ⌝ }
 {
     let text = words::extents::extent_at(unspaced, counts, code / SEPARATORS);
     let separator = code % SEPARATORS;
@@ -40,7 +40,7 @@ fn piece_extent(unspaced: usize, counts: &[u8], code: u32) -> Extent
 // The extent of pieces that follow others.
 fn following_extent(unspaced: usize, counts: &[u8], plan: &[u32]) -> Extent
     requires { ⌜ Countable unspaced (now counts) × (lengthOf (now plan) ≤ 1000) ⌝ }
-    ensures { λ r. ⌜ ((pool : List ℕ) → Counted pool unspaced (now (counts .entry)) → Extends (following (pieces pool (now (plan .entry)))) r) × (r .spaces ≤ 256 * lengthOf (now (plan .entry))) × (r .length ≤ longestPiece * lengthOf (now (plan .entry))) ⌝ }
+    ensures { λ r. ⌜ ((pool : List ℕ) → SpacesCounted pool unspaced (now (counts .entry)) → Extends (following (pieces pool (now (plan .entry)))) r) × (r .spaces ≤ 256 * lengthOf (now (plan .entry))) × (r .length ≤ longestPiece * lengthOf (now (plan .entry))) ⌝ }
 {
     let mut spaces: u32 = 0;
     let mut length: usize = 0;
@@ -57,7 +57,7 @@ fn following_extent(unspaced: usize, counts: &[u8], plan: &[u32]) -> Extent
 // The measure of what the first n pieces of a plan say.
 pub fn measure(unspaced: usize, counts: &[u8], plan: &[u32], n: usize) -> Measure
     requires { ⌜ Countable unspaced (now counts) × (n ≤ lengthOf (now plan)) × (n ≤ 1000) ⌝ }
-    ensures { λ r. ⌜ ((pool : List ℕ) → Counted pool unspaced (now (counts .entry)) → r ≡ measureOf (phraseOf (says pool (now (plan .entry)) n))) ⌝ }
+    ensures { λ r. ⌜ ((pool : List ℕ) → SpacesCounted pool unspaced (now (counts .entry)) → r ≡ measureOf (phraseOf (says pool (now (plan .entry)) n))) ⌝ }
 {
     if n == 0 {
         return base::measure_of(0, 0);

@@ -80,7 +80,7 @@ samples-hold =
     (refl, refl) & (refl, refl) & (refl, refl) & (refl, refl) & (refl, refl) & (refl, refl) & (refl, refl) & (refl, refl) & (refl, refl) & (refl, refl)
     & (refl, refl) & (refl, refl) & (refl, refl) & refl & refl & refl & refl & refl & refl
     & no-sentence (made usual (in-range (ukrainianRanges usual) refl) _) (thousands _ _ refl 20) refl
-    & refl & refl & refl & refl & refl & refl & refl & refl
+    & refl & refl & refl & refl & refl & refl & refl & refl & refl & refl & refl
     & (refl, refl) & (refl, refl) & (refl, refl, same-not _ _ refl) & (refl, refl, same-not _ _ refl) & (refl, refl, same-not _ _ refl) & (refl, refl, same-not _ _ refl)
     & no-sentence (made (inCase accusative usual) (in-range (ukrainianRanges (inCase accusative usual)) refl) _) (thousands _ _ refl 20) refl
     & (refl, refl, same-not _ _ refl) & (refl, refl, same-not _ _ refl) & un-mille & (refl, refl, same-not _ _ refl)

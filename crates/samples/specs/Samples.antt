@@ -104,14 +104,17 @@ habits =
     spellsNot (ukCard usual "5") "пʼять" "п'ять" ∷
     readsNot (ukFromCardinal usual) "п'ять" ∷ []
 
--- words and lengths: `deux cents`, reformed `deux-cents`, `quatre-vingts`, `soixante et onze`; `один новий шекель`, whose noun is two words; `сорок
--- четвертий рік до н.е.`; `42-го`; and a refusal
-abbrev pub rooms : List Sample
-rooms =
+-- words and lengths: `deux cents`, reformed `deux-cents`, `quatre-vingts`, `soixante et onze`, `deux centsième`; `мінус один`; `двадцятиоднотисячний`;
+-- `один новий шекель`, whose noun is two words; `сорок четвертий рік до н.е.`; `42-го`; and a refusal
+abbrev pub measureSamples : List Sample
+measureSamples =
     measures (frCard usualFrench "200") 0 2 10 ∷
     measures (frCard (frenchSettings masculine newSpelling regionFR) "200") 0 1 10 ∷
     measures (frCard usualFrench "80") 0 1 13 ∷
     measures (frCard usualFrench "71") 0 3 16 ∷
+    measures (frOrd usualFrench "200") 0 2 15 ∷
+    measures (ukCard usual "-1") 0 2 19 ∷
+    measures (ukOrd usual "21000") 0 1 40 ∷
     measures (ukMoney usual "ILS" "1") 0 3 32 ∷
     measures (ukToYear usual (negℤ (pos 44))) 0 5 48 ∷
     measures (ukToOrdinalNum (inCase genitive usual) (utf8 "42")) 0 1 7 ∷
@@ -119,4 +122,4 @@ rooms =
 
 -- the whole table
 abbrev pub sampleTable : List Sample
-sampleTable = samples ++ (rooms ++ habits)
+sampleTable = samples ++ (measureSamples ++ habits)

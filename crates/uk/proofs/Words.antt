@@ -9,7 +9,7 @@ use lib.Dec.{eqb, ltb}
 use lib.ListN.{length, length-append}
 use Rattle.base.specs.Join.{Word}
 use Rattle.base.specs.Utf8.{form1, form2, form3}
-use Rattle.base.proofs.Words.{tested, Solid, Ending, followed, either, Solids, solids-append, at1, at2, at3}
+use Rattle.base.proofs.Words.{tested, Solid, Trails, followed, either, Solids, solids-append, at1, at2, at3}
 use Rattle.settings.specs.Settings.{ukrainianRanges, Within}
 use Rattle.settings.specs.declared.Settings.{Settings}
 use Rattle.cardinals.specs.Cardinal.{cardinalPhrase}
@@ -36,7 +36,7 @@ pub teen-solid : (i : ℕ) → i < 10 → Solid (form1 teensBases i)
 unfolding form1 teensBases
 teen-solid = at1 10 teensBases refl
 
-teen-ending : (i : ℕ) → i < 6 → Ending (form1 teensFlexions i)
+teen-ending : (i : ℕ) → i < 6 → Trails (form1 teensFlexions i)
 unfolding form1 teensFlexions
 teen-ending = at1 6 teensFlexions refl
 
@@ -48,7 +48,7 @@ hundred-solid : (i j : ℕ) → i < 9 → j < 6 → Solid (form2 hundreds i j)
 unfolding form2 hundreds
 hundred-solid = at2 9 6 hundreds refl
 
-thousand-ending : (i j : ℕ) → i < 2 → j < 6 → Ending (form2 thousandFlexions i j)
+thousand-ending : (i j : ℕ) → i < 2 → j < 6 → Trails (form2 thousandFlexions i j)
 unfolding form2 thousandFlexions
 thousand-ending = at2 2 6 thousandFlexions refl
 
@@ -56,7 +56,7 @@ pub mega-solid : (i : ℕ) → i < 21 → Solid (form1 megaBases i)
 unfolding form1 megaBases
 mega-solid = at1 21 megaBases refl
 
-mega-ending : (i j : ℕ) → i < 2 → j < 6 → Ending (form2 megaFlexions i j)
+mega-ending : (i j : ℕ) → i < 2 → j < 6 → Trails (form2 megaFlexions i j)
 unfolding form2 megaFlexions
 mega-ending = at2 2 6 megaFlexions refl
 
@@ -107,10 +107,10 @@ num-some W g a b = go (g / 100 % 10) (g / 10 % 10) (g % 10) refl refl refl
     go (suc h) t u p q r = omega arith
 
 -- scale nouns
-ending-runs : (S : Settings) (k : ℕ) → Within (ukrainianRanges S) → Ending (scaleEnding S k)
+ending-runs : (S : Settings) (k : ℕ) → Within (ukrainianRanges S) → Trails (scaleEnding S k)
 unfolding scaleEnding
 ending-runs S k w =
-    either Ending (eqb k 1) (λ e. thousand-ending (S .number) (S .case) (w .1 .0) (w .1 .1 .0)) (λ e. mega-ending (S .number) (S .case) (w .1 .0) (w .1 .1 .0))
+    either Trails (eqb k 1) (λ e. thousand-ending (S .number) (S .case) (w .1 .0) (w .1 .1 .0)) (λ e. mega-ending (S .number) (S .case) (w .1 .0) (w .1 .1 .0))
 
 noun-solid : (S : Settings) (k t u : ℕ) → Within (ukrainianRanges S) → k < 22 → Solids (nounWords S k t u)
 unfolding scaleNoun

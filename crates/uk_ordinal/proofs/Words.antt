@@ -12,7 +12,7 @@ use lib.ListN.{length}
 use Rattle.base.specs.Join.{Word}
 use Rattle.base.specs.Signs.{space}
 use Rattle.base.specs.Utf8.{utf8, form1, form2}
-use Rattle.base.proofs.Words.{tested, Solid, Ending, next-runs, followed, Solids, SomeSolid, one-solid, some-append, flat-solid, either, at1, at2}
+use Rattle.base.proofs.Words.{tested, Solid, Trails, next-runs, followed, Solids, SomeSolid, one-solid, some-append, flat-solid, either, at1, at2}
 use Rattle.settings.specs.Settings.{masculine, singular, ukrainianRanges, Within, inGender}
 use Rattle.settings.specs.declared.Settings.{Settings}
 use Rattle.figures.specs.Text.{digit, digits, value}
@@ -37,31 +37,31 @@ ten-solid : (i : ℕ) → i < 9 → Solid (form1 words.ordinalTensBases i)
 unfolding form1 words.ordinalTensBases
 ten-solid = at1 9 words.ordinalTensBases refl
 
-hard-ending : (i j : ℕ) → i < 3 → j < 6 → Ending (form2 words.adjectiveHardFlexionsSingular i j)
+hard-ending : (i j : ℕ) → i < 3 → j < 6 → Trails (form2 words.adjectiveHardFlexionsSingular i j)
 unfolding form2 words.adjectiveHardFlexionsSingular
 hard-ending = at2 3 6 words.adjectiveHardFlexionsSingular refl
 
-hard-plural-ending : (i : ℕ) → i < 6 → Ending (form1 words.adjectiveHardFlexionsPlural i)
+hard-plural-ending : (i : ℕ) → i < 6 → Trails (form1 words.adjectiveHardFlexionsPlural i)
 unfolding form1 words.adjectiveHardFlexionsPlural
 hard-plural-ending = at1 6 words.adjectiveHardFlexionsPlural refl
 
-soft-ending : (i j : ℕ) → i < 3 → j < 6 → Ending (form2 words.adjectiveSoftFlexionsSingular i j)
+soft-ending : (i j : ℕ) → i < 3 → j < 6 → Trails (form2 words.adjectiveSoftFlexionsSingular i j)
 unfolding form2 words.adjectiveSoftFlexionsSingular
 soft-ending = at2 3 6 words.adjectiveSoftFlexionsSingular refl
 
-soft-plural-ending : (i : ℕ) → i < 6 → Ending (form1 words.adjectiveSoftFlexionsPlural i)
+soft-plural-ending : (i : ℕ) → i < 6 → Trails (form1 words.adjectiveSoftFlexionsPlural i)
 unfolding form1 words.adjectiveSoftFlexionsPlural
 soft-plural-ending = at1 6 words.adjectiveSoftFlexionsPlural refl
 
-short-hard-ending : (i j : ℕ) → i < 3 → j < 6 → Ending (form2 words.ordinalHardFlexionsSingularShort i j)
+short-hard-ending : (i j : ℕ) → i < 3 → j < 6 → Trails (form2 words.ordinalHardFlexionsSingularShort i j)
 unfolding form2 words.ordinalHardFlexionsSingularShort
 short-hard-ending = at2 3 6 words.ordinalHardFlexionsSingularShort refl
 
-short-soft-ending : (i j : ℕ) → i < 3 → j < 6 → Ending (form2 words.ordinalSoftFlexionsSingularShort i j)
+short-soft-ending : (i j : ℕ) → i < 3 → j < 6 → Trails (form2 words.ordinalSoftFlexionsSingularShort i j)
 unfolding form2 words.ordinalSoftFlexionsSingularShort
 short-soft-ending = at2 3 6 words.ordinalSoftFlexionsSingularShort refl
 
-short-plural-ending : (i : ℕ) → i < 6 → Ending (form1 words.ordinalFlexionsPluralShort i)
+short-plural-ending : (i : ℕ) → i < 6 → Trails (form1 words.ordinalFlexionsPluralShort i)
 unfolding form1 words.ordinalFlexionsPluralShort
 short-plural-ending = at1 6 words.ordinalFlexionsPluralShort refl
 
@@ -73,7 +73,7 @@ year-solid = at2 2 6 words.year refl
 not-space : (b : ℕ) → digit b ≡ true → eqb b space ≡ false
 not-space b e = ne-eqb b space (λ f. omega (arith, digit-low b e))
 
-digits-ending : (t : List ℕ) → digits t ≡ true → Ending t
+digits-ending : (t : List ℕ) → digits t ≡ true → Trails t
 digits-ending [] e = tested refl
 digits-ending (b ∷ t) e = next-runs refl (rw (not-space b (digits-head b t e)) (digits-ending t (digits-tail b t e)))
 
@@ -83,18 +83,18 @@ text-solid (b ∷ t) e h = let f = not-space b (digits-head b t e) in next-runs 
 
 module _ (S : Settings) (w : Within (ukrainianRanges S)) where
   -- endings
-  flexion-ending : (isSoft : Bool) → Ending (flexion S isSoft)
+  flexion-ending : (isSoft : Bool) → Trails (flexion S isSoft)
   unfolding flexion
-  flexion-ending true = either Ending (eqb (S .number) singular) (λ e. soft-ending (S .gender) (S .case) (w .0) (w .1 .1 .0)) (λ e. soft-plural-ending (S .case) (w .1 .1 .0))
-  flexion-ending false = either Ending (eqb (S .number) singular) (λ e. hard-ending (S .gender) (S .case) (w .0) (w .1 .1 .0)) (λ e. hard-plural-ending (S .case) (w .1 .1 .0))
+  flexion-ending true = either Trails (eqb (S .number) singular) (λ e. soft-ending (S .gender) (S .case) (w .0) (w .1 .1 .0)) (λ e. soft-plural-ending (S .case) (w .1 .1 .0))
+  flexion-ending false = either Trails (eqb (S .number) singular) (λ e. hard-ending (S .gender) (S .case) (w .0) (w .1 .1 .0)) (λ e. hard-plural-ending (S .case) (w .1 .1 .0))
 
-  short-singular : (isSoft : Bool) → Ending (shortSingular S isSoft)
+  short-singular : (isSoft : Bool) → Trails (shortSingular S isSoft)
   short-singular true = short-soft-ending (S .gender) (S .case) (w .0) (w .1 .1 .0)
   short-singular false = short-hard-ending (S .gender) (S .case) (w .0) (w .1 .1 .0)
 
-  short-ending : (isSoft : Bool) → Ending (shortFlexion S isSoft)
+  short-ending : (isSoft : Bool) → Trails (shortFlexion S isSoft)
   unfolding shortFlexion
-  short-ending isSoft = either Ending (eqb (S .number) singular) (λ e. short-singular isSoft) (λ e. short-plural-ending (S .case) (w .1 .1 .0))
+  short-ending isSoft = either Trails (eqb (S .number) singular) (λ e. short-singular isSoft) (λ e. short-plural-ending (S .case) (w .1 .1 .0))
 
   -- digit ordinals
   pub digit-ordinal-solid : (t : List ℕ) → digits t ≡ true → 0 < length t → Solid (digitOrdinal S t)
@@ -115,7 +115,7 @@ module _ (S : Settings) (w : Within (ukrainianRanges S)) where
       record { hundred = d .hundred; ten = d .ten; teen = d .teen; unit = λ u a b. either Solid (eqb u 1) (λ e. tested refl) (λ e. d .unit u a b) }
 
   -- the lowest group, with its ending
-  module _ (ending : Word) (p : Ending ending) where
+  module _ (ending : Word) (p : Trails ending) where
     compound-solid : (rest k g : ℕ) → 0 < k → k < 22 → Solid (compoundWord S ending rest k g)
     unfolding compoundWord flatten
     compound-solid rest k g a b =

@@ -1,4 +1,4 @@
-// The endings of digit ordinals, those that overlap sharing their bytes. Made by tools/gen_words.py.
+// The endings of digit ordinals, those that overlap sharing their bytes; `_` brings the next to an even byte. Made by tools/gen_words.py.
 pub const SIZE: usize = 30;
 
 pub const POOL: [u8; SIZE] =

@@ -64,7 +64,7 @@ fn say_ordinal(settings: Settings, text: &[u8], out: &mut [u8]) -> Answer
 }
 
 // Its measure.
-fn measure_text(settings: Settings, text: &[u8]) -> Measure
+fn ordinal_measure(settings: Settings, text: &[u8]) -> Measure
     requires { ⌜ Within (ukrainianRanges settings) × (plain (now text) ≡ true) × (length (now text) ≤ 66) ⌝ }
     ensures { λ r. ⌜ r ≡ measureOf (ukToOrdinal settings (now (text .entry)) .phrase) ⌝ }
 {
@@ -88,7 +88,7 @@ fn say_year(settings: Settings, year: i64, out: &mut [u8]) -> Answer
 }
 
 // Its measure.
-fn measure_date(settings: Settings, year: i64) -> Measure
+fn year_measure(settings: Settings, year: i64) -> Measure
     requires { ⌜ Within (ukrainianRanges settings) ⌝ }
     ensures { λ r. ⌜ r ≡ measureOf (ukToYear settings year .phrase) ⌝ }
 {
@@ -118,7 +118,7 @@ pub fn measure_ordinal(gender: u32, number: u32, case: u32, text: &[u8]) -> Meas
 {
     let n = refuse_ordinal(gender, number, case, text);
     if n == 0 {
-        measure_text(settings::ukrainian(gender, number, case), text)
+        ordinal_measure(settings::ukrainian(gender, number, case), text)
     } else {
         base::unmeasured(n)
     }
@@ -167,7 +167,7 @@ pub fn measure_year(gender: u32, number: u32, case: u32, year: i64) -> Measure
     ensures { λ r. ⌜ r ≡ measured (ukToYear (ukrainianSettings gender number case) year) ⌝ }
 {
     if settings::is_ukrainian(gender, number, case) {
-        measure_date(settings::ukrainian(gender, number, case), year)
+        year_measure(settings::ukrainian(gender, number, case), year)
     } else {
         base::unmeasured(WRONG_SETTING)
     }

@@ -9,7 +9,7 @@ use lib.Seq.{take-add, take-all, take-nil}
 use Rattle.base.specs.Measure.{spaces}
 use Rattle.base.proofs.Measures.{spaces-append}
 use Rattle.words.specs.Part.{part}
-use Rattle.words.specs.Extents.{countsFrom, Counted, Extends}
+use Rattle.words.specs.Extents.{countsFrom, SpacesCounted, Extends}
 use Rattle.words.specs.declared.extents.Extent.{Extent}
 
 counts-length : (k : ℕ) (s : List ℕ) → length (countsFrom k s) ≡ length s + 1
@@ -30,7 +30,7 @@ between pool a e h =
     let z : a + (e - a) ≡ e = omega arith in
     ap (λ (n : ℕ). spaces (take n pool)) (sym z) ∙ rw (take-add a (e - a) pool) (spaces-append (take a pool) (take (e - a) (drop a pool)))
 
-module _ {pool : List ℕ} {unspaced : ℕ} {counts : List ℕ} (c : Counted pool unspaced counts) where
+module _ {pool : List ℕ} {unspaced : ℕ} {counts : List ℕ} (c : SpacesCounted pool unspaced counts) where
   -- where the pool ends
   pub counted-length : length counts ≡ length pool - unspaced + 1
   counted-length = ap length (c .others) ∙ counts-length 0 (drop unspaced pool) ∙ rw length-drop refl

@@ -21,7 +21,7 @@ abbrev pub Countable : ℕ → List ℕ → Type 0
 Countable unspaced counts = (0 < length counts) × (unspaced + length counts ≤ longestPool)
 
 -- so many first bytes of a pool have no space, and these are the counts of the others
-pub record Counted (pool : List ℕ) (unspaced : ℕ) (counts : List ℕ) : Type 0 where
+pub record SpacesCounted (pool : List ℕ) (unspaced : ℕ) (counts : List ℕ) : Type 0 where
   pub within : unspaced ≤ length pool
   pub none : spaces (take unspaced pool) ≡ 0
   pub others : counts ≡ countsFrom 0 (drop unspaced pool)

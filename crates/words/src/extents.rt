@@ -1,5 +1,5 @@
 // How far a text extends, in bytes and in spaces, by its place alone: no byte of the pool is looked at. Its first `unspaced` bytes have no space;
-// `counts` tells how many stand before each of the others, and before its end.
+// `counts` tells, in a byte each, how many spaces stand before each of the others, and before its end.
 use crate::LONGER;
 ghost use mathlib.Core.Path.{_≡_};
 ghost use mathlib.Core.List.{List};
@@ -7,7 +7,7 @@ ghost use Prim.Native.Nat.{ℕ, _+_, _-_, _≤_, _<_};
 ghost use lib.ListN.{length as lengthOf, take, drop};
 ghost use Rattle.base.specs.Measure.{spaces as spacesIn};
 ghost use Rattle.words.specs.Part.{part};
-ghost use Rattle.words.specs.Extents.{Countable, Counted, Extends};
+ghost use Rattle.words.specs.Extents.{Countable, SpacesCounted, Extends};
 
 // The spaces and the bytes of a text.
 pub struct Extent {
@@ -18,7 +18,7 @@ pub struct Extent {
 // How many spaces stand before a byte of the pool, or before its end.
 fn spaces_before(unspaced: usize, counts: &[u8], at: usize) -> u32
     requires { ⌜ at < unspaced + lengthOf (now counts) ⌝ }
-    ensures { λ r. ⌜ ((pool : List ℕ) → Counted pool unspaced (now (counts .entry)) → r ≡ spacesIn (take at pool)) × (r < 256) ⌝ }
+    ensures { λ r. ⌜ ((pool : List ℕ) → SpacesCounted pool unspaced (now (counts .entry)) → r ≡ spacesIn (take at pool)) × (r < 256) ⌝ }
 {
     if at <= unspaced {
         return 0;
@@ -29,7 +29,7 @@ fn spaces_before(unspaced: usize, counts: &[u8], at: usize) -> u32
 // The extent of the bytes from start to end. No count of a pool is below one before it: the test is there for the difference alone.
 fn spaced_extent(unspaced: usize, counts: &[u8], start: usize, end: usize) -> Extent
     requires { ⌜ (start ≤ end) × (end < unspaced + lengthOf (now counts)) ⌝ }
-    ensures { λ r. ⌜ ((pool : List ℕ) → Counted pool unspaced (now (counts .entry)) → Extends (take (end - start) (drop start pool)) r) × (r .spaces < 256) × (r .length ≡ end - start) ⌝ }
+    ensures { λ r. ⌜ ((pool : List ℕ) → SpacesCounted pool unspaced (now (counts .entry)) → Extends (take (end - start) (drop start pool)) r) × (r .spaces < 256) × (r .length ≡ end - start) ⌝ }
 {
     let before = spaces_before(unspaced, counts, start);
     let all = spaces_before(unspaced, counts, end);
@@ -46,7 +46,7 @@ fn spaced_extent(unspaced: usize, counts: &[u8], start: usize, end: usize) -> Ex
 // The extent of the text at a place. A text without a space is known by where it ends; one behind the pool is empty.
 pub fn extent_at(unspaced: usize, counts: &[u8], place: u32) -> Extent
     requires { ⌜ Countable unspaced (now counts) ⌝ }
-    ensures { λ r. ⌜ ((pool : List ℕ) → Counted pool unspaced (now (counts .entry)) → Extends (part pool place) r) × (r .spaces < 256) × (r .length < 40) ⌝ }
+    ensures { λ r. ⌜ ((pool : List ℕ) → SpacesCounted pool unspaced (now (counts .entry)) → Extends (part pool place) r) × (r .spaces < 256) × (r .length < 40) ⌝ }
 {
     let start = 2 * (place / LONGER) as usize;
     let length = (place % LONGER) as usize;

@@ -1,4 +1,4 @@
 pub mod Demand3
 pub mod Numbers
 pub mod Words
-pub mod Room
+pub mod Measuring

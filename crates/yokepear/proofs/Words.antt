@@ -8,7 +8,7 @@ use mathlib.Core.Option.{Option, none, some}
 use native.Mathlib.Omega.{arith}
 use lib.IntN.{ℤ}
 use lib.ListN.{length}
-use Rattle.base.specs.Divide.{divided, AllSome}
+use Rattle.base.specs.Divide.{divided, NoneEmpty}
 use Rattle.base.specs.Signs.{space}
 use Rattle.base.proofs.Words.{Solid, solid-parts, solid-some, joined-solid}
 use Rattle.settings.specs.Settings.{ukrainianSettings, frenchSettings, ukrainianRanges, frenchRanges}
@@ -82,7 +82,7 @@ phrase-solid (toFrenchCardinal feminine reformed region text) = french-cardinals
 phrase-solid (toFrenchOrdinal feminine reformed region text) = french-ordinal (frenchSettings feminine reformed region) text
 
 -- a phrase that is spelled is never empty, and neither is any of its words: what spaces divide it into
-pub no-word-empty : (call : SpellingCall) → spellingOf call .refusal ≡ 0 → AllSome (divided space (spellingOf call .phrase))
+pub no-word-empty : (call : SpellingCall) → spellingOf call .refusal ≡ 0 → NoneEmpty (divided space (spellingOf call .phrase))
 no-word-empty call e = solid-parts (phrase-solid call e)
 
 pub phrase-not-empty : (call : SpellingCall) → spellingOf call .refusal ≡ 0 → 0 < length (spellingOf call .phrase)

@@ -1,4 +1,5 @@
--- All calls: what each is given, and what it comes to. The contracts of the exported functions cite this list.
+-- All calls: what each is given, and what it comes to. The contracts of the exported functions cite this list; a measuring call's cites what its spelling
+-- call comes to, and it is given the same.
 -- Assumes nothing.
 use Prim.Native.Nat.{ℕ}
 use mathlib.Core.Path.{_≡_}

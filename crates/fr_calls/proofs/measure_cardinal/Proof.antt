@@ -17,8 +17,8 @@ use Rattle.fr_calls.proofs.measure_cardinal.Tie as tie
 none : (c : tie.Then1) → let a = c .before .before .before .args in Unrefused (frenchRanges (frenchSettings (a .feminine) (a .reformed) (a .region))) (cardinalRefusals 102 (a .text .now))
 none c = unrefused (sym (c .before .refuse-cardinal .ensures) ∙ c .if1 .taken)
 
-measure-number-requires : tie.Need-measure-number-requires
-measure-number-requires c κs =
+cardinal-measure-requires : tie.Need-cardinal-measure-requires
+cardinal-measure-requires c κs =
     let p = none (c .before) in
     let t = c .before .before .before .before .args .text .now in
     let f = passed (wellFormed t) false (length (unsigned t)) 102 (p .others) in
@@ -28,10 +28,10 @@ returns : tie.Need-returns
 returns c =
     let a = c .before .before .before .before .before .args in
     let z : frToCardinal (frenchSettings (a .feminine) (a .reformed) (a .region)) (a .text .now) .refusal ≡ 0 = sym (c .before .before .before .refuse-cardinal .ensures) ∙ c .before .before .if1 .taken in
-    rw z (rw (c .before .french .ensures) at (c .measure-number .ensures))
+    rw z (rw (c .before .french .ensures) at (c .cardinal-measure .ensures))
 
 pub measure-cardinal-spec : {M : Type 1} → statement M
 measure-cardinal-spec =
     tie.close
-    (tie.spec (λ c κs. search needs) (λ c κs. none c .test) measure-number-requires (λ c κs. search needs) returns
+    (tie.spec (λ c κs. search needs) (λ c κs. none c .test) cardinal-measure-requires (λ c κs. search needs) returns
     (λ c. c .unmeasured .ensures _ (sym (c .before .before .refuse-cardinal .ensures))))

@@ -14,8 +14,8 @@ use Rattle.uk_ordinal_calls.proofs.measure_ordinal.Tie as tie
 none : (c : tie.Then1) → let a = c .before .before .before .args in Unrefused (ukrainianRanges (ukrainianSettings (a .gender) (a .number) (a .case))) (ordinalRefusals 66 (a .text .now))
 none c = unrefused (sym (c .before .refuse-ordinal .ensures) ∙ c .if1 .taken)
 
-measure-text-requires : tie.Need-measure-text-requires
-measure-text-requires c κs =
+ordinal-measure-requires : tie.Need-ordinal-measure-requires
+ordinal-measure-requires c κs =
     let p = none (c .before) in
     let d = ordinal-digits (c .before .before .before .before .args .text .now) (p .others) in
     (rw (c .ukrainian .ensures) (p .settings), d .0, d .1)
@@ -24,10 +24,10 @@ returns : tie.Need-returns
 returns c =
     let a = c .before .before .before .before .before .args in
     let z : ukToOrdinal (ukrainianSettings (a .gender) (a .number) (a .case)) (a .text .now) .refusal ≡ 0 = sym (c .before .before .before .refuse-ordinal .ensures) ∙ c .before .before .if1 .taken in
-    rw z (rw (c .before .ukrainian .ensures) at (c .measure-text .ensures))
+    rw z (rw (c .before .ukrainian .ensures) at (c .ordinal-measure .ensures))
 
 pub measure-ordinal-spec : {M : Type 1} → statement M
 measure-ordinal-spec =
     tie.close
-    (tie.spec (λ c κs. search needs) (λ c κs. none c .test) measure-text-requires (λ c κs. search needs) returns
+    (tie.spec (λ c κs. search needs) (λ c κs. none c .test) ordinal-measure-requires (λ c κs. search needs) returns
     (λ c. c .unmeasured .ensures _ (sym (c .before .before .refuse-ordinal .ensures))))

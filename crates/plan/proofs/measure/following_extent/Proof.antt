@@ -7,7 +7,7 @@ use native.Mathlib.Omega.{arith}
 use lib.ListN.{length as lengthOf}
 use borrow.Author.Needs.{needs}
 use Rattle.base.specs.Room.{longestPiece}
-use Rattle.words.specs.Extents.{Counted, Extends}
+use Rattle.words.specs.Extents.{SpacesCounted, Extends}
 use Rattle.words.proofs.Counts.{extends-append}
 use Rattle.plan.proofs.Laws.{upto, next, upto-all}
 use Rattle.plan.proofs.Measuring.{none-extends}
@@ -16,7 +16,7 @@ use Rattle.plan.proofs.measure.following_extent.Tie as tie
 
 abbrev Inv-loop : tie.InvT-loop
 Inv-loop unspaced counts plan spaces₀ length₀ i₀ spaces length i =
-    ((pool : List ℕ) → Counted pool unspaced counts → Extends (upto pool i plan) (record { spaces = spaces; length = length }))
+    ((pool : List ℕ) → SpacesCounted pool unspaced counts → Extends (upto pool i plan) (record { spaces = spaces; length = length }))
     × (i ≤ lengthOf plan) × (spaces ≤ 256 * i) × (length ≤ longestPiece * i) × (lengthOf plan ≤ 1000)
 
 abbrev μ-loop : tie.MeasureT-loop

@@ -1,4 +1,4 @@
--- `uk_ordinal_calls::measure_text` meets its contract: planned as `say_ordinal` plans.
+-- `uk_ordinal_calls::ordinal_measure` meets its contract: planned as `say_ordinal` plans.
 -- Assumes nothing.
 use Prim.Native.Nat.{ℕ}
 use mathlib.Core.Path.{sym, ap, _∙_}
@@ -11,8 +11,8 @@ use Rattle.figures.proofs.Laws.Sign.{unsigned-plain, digits-unsigned}
 use Rattle.groups.proofs.Held.{Held, held}
 use Rattle.uk_ordinal.specs.Ordinal.{ordinalWords}
 use Rattle.uk_ordinal_calls.proofs.Admitted.{groups-22}
-use Rattle.uk_ordinal_calls.proofs.measure_text.Statement.{statement}
-use Rattle.uk_ordinal_calls.proofs.measure_text.Tie as tie
+use Rattle.uk_ordinal_calls.proofs.ordinal_measure.Statement.{statement}
+use Rattle.uk_ordinal_calls.proofs.ordinal_measure.Tie as tie
 
 -- the text's groups
 grouped : (c : tie.After-count) → Held 22 (c .before .before .before .args .text .now) (c .before .groups22 .result) (c .count .result)
@@ -32,7 +32,7 @@ returns c =
     let u = sym (ap value (unsigned-plain t (digits-unsigned t (plain-digits t (s .pre .1))))) in
     c .measure .ensures ∙ ap measureOf (c .before .before .before .plan-ordinal .ensures .1 ∙ ap (λ (n : ℕ). joined (ordinalWords (s .args .settings) n)) (grouped (c .before .before .before .before .before .before) .number ∙ u))
 
-pub measure-text-spec : {M : Type 1} → statement M
-measure-text-spec =
+pub ordinal-measure-spec : {M : Type 1} → statement M
+ordinal-measure-spec =
     tie.close
     (tie.spec (λ c κs. plain-digits (c .before .args .text .now) (c .before .pre .1)) (λ c κs. search needs) (λ c. search needs) plan-ordinal-requires (λ c. search needs) (λ c κs. search needs) returns)

@@ -1,4 +1,4 @@
--- `fr_calls::measure_nth` meets its contract: planned as `spell_ordinal` plans.
+-- `fr_calls::ordinal_measure` meets its contract: planned as `spell_ordinal` plans.
 -- Assumes nothing.
 use mathlib.Core.Path.{ap, _∙_}
 use borrow.Author.Needs.{needs}
@@ -8,8 +8,8 @@ use Rattle.figures.proofs.Laws.Plain.{plain-digits}
 use Rattle.figures.proofs.Laws.Sign.{formed-unsigned}
 use Rattle.groups.proofs.Held.{Held, held-text}
 use Rattle.fr.specs.Ordinal.{nthPhrase}
-use Rattle.fr_calls.proofs.measure_nth.Statement.{statement}
-use Rattle.fr_calls.proofs.measure_nth.Tie as tie
+use Rattle.fr_calls.proofs.ordinal_measure.Statement.{statement}
+use Rattle.fr_calls.proofs.ordinal_measure.Tie as tie
 
 -- the text's groups
 grouped : (c : tie.After-count) → Held 34 (unsigned (c .before .before .before .before .before .args .text .now)) (c .before .groups34 .result) (c .count .result)
@@ -25,8 +25,8 @@ plan-ordinal-requires c κs =
 returns : tie.Need-returns
 returns c = c .measure .ensures ∙ ap measureOf (c .before .before .plan-ordinal .ensures .1 ∙ ap (nthPhrase _) (grouped (c .before .before .before .before .before .before) .number))
 
-pub measure-nth-spec : {M : Type 1} → statement M
-measure-nth-spec =
+pub ordinal-measure-spec : {M : Type 1} → statement M
+ordinal-measure-spec =
     tie.close
     (tie.spec (λ c κs. search needs) (λ c κs. search needs)
     (λ c κs. rw (c .after-sign .ensures) (plain-digits (unsigned (c .before .before .before .args .text .now)) (formed-unsigned (c .before .before .before .args .text .now) (c .before .before .before .pre .1))))

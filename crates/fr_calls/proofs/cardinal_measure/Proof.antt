@@ -1,4 +1,4 @@
--- `fr_calls::measure_number` meets its contract: planned as `spell_cardinal` plans.
+-- `fr_calls::cardinal_measure` meets its contract: planned as `spell_cardinal` plans.
 -- Assumes nothing.
 use mathlib.Core.Path.{refl, ap, _∙_}
 use borrow.Author.Needs.{needs}
@@ -7,8 +7,8 @@ use Rattle.figures.specs.Text.{unsigned}
 use Rattle.figures.proofs.Laws.Plain.{plain-digits}
 use Rattle.figures.proofs.Laws.Sign.{formed-unsigned}
 use Rattle.groups.proofs.Held.{Held, held-text}
-use Rattle.fr_calls.proofs.measure_number.Statement.{statement}
-use Rattle.fr_calls.proofs.measure_number.Tie as tie
+use Rattle.fr_calls.proofs.cardinal_measure.Statement.{statement}
+use Rattle.fr_calls.proofs.cardinal_measure.Tie as tie
 
 -- the text's groups
 grouped : (c : tie.After-count) → Held 34 (unsigned (c .before .before .before .before .before .before .args .text .now)) (c .before .groups34 .result) (c .count .result)
@@ -24,8 +24,8 @@ plan-cardinal-requires c κs =
 returns : tie.Need-returns
 returns c = c .measure .ensures ∙ ap measureOf (c .before .before .plan-cardinal .ensures .1 ∙ rw (c .before .before .before .before .before .before .before .before .is-negative .ensures, grouped (c .before .before .before .before .before) .number) refl)
 
-pub measure-number-spec : {M : Type 1} → statement M
-measure-number-spec =
+pub cardinal-measure-spec : {M : Type 1} → statement M
+cardinal-measure-spec =
     tie.close
     (tie.spec (λ c κs. search needs) (λ c κs. search needs) (λ c κs. search needs)
     (λ c κs. rw (c .after-sign .ensures) (plain-digits (unsigned (c .before .before .before .before .args .text .now)) (formed-unsigned (c .before .before .before .before .args .text .now) (c .before .before .before .before .pre .1))))

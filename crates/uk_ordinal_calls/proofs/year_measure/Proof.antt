@@ -1,4 +1,4 @@
--- `uk_ordinal_calls::measure_date` meets its contract: planned as `say_year` plans.
+-- `uk_ordinal_calls::year_measure` meets its contract: planned as `say_year` plans.
 -- Assumes nothing.
 use Prim.Native.Nat.{_^_, _<_}
 use mathlib.Core.Path.{_≡_, ap, _∙_}
@@ -13,8 +13,8 @@ use Rattle.figures.specs.Groups.{groupsOf}
 use Rattle.figures.proofs.Laws.Groups.{groups-length, groups-below}
 use Rattle.uk_ordinal.specs.Year.{early}
 use Rattle.uk_ordinal_calls.proofs.Admitted.{groups-22, year-said}
-use Rattle.uk_ordinal_calls.proofs.measure_date.Statement.{statement}
-use Rattle.uk_ordinal_calls.proofs.measure_date.Tie as tie
+use Rattle.uk_ordinal_calls.proofs.year_measure.Statement.{statement}
+use Rattle.uk_ordinal_calls.proofs.year_measure.Tie as tie
 
 -- the magnitude, and its groups
 module _ (c : tie.After-gs2) where
@@ -41,7 +41,7 @@ returns c =
     let g = c .before .before .before .before .before .before .before in
     c .measure .ensures ∙ ap measureOf (c .before .before .before .plan-year .ensures .1 ∙ year-said (s .args .settings) _ (e .result) (s .args .year) (held g) (e .ensures ∙ ap early (toZ-ofZ (s .fits .year))) (groups-are g))
 
-pub measure-date-spec : {M : Type 1} → statement M
-measure-date-spec =
+pub year-measure-spec : {M : Type 1} → statement M
+year-measure-spec =
     tie.close
     (tie.spec (λ c κs. search needs) (λ c. search needs) (λ c κs. search needs) (λ c κs. search needs) (λ c. search needs) plan-year-requires (λ c. search needs) (λ c κs. search needs) returns)
