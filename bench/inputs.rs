@@ -1,11 +1,11 @@
-//! The fixed inputs, every setting and currency in turn: the spread of 1, 2, 6 and the most groups,
-//! and what instruments, scales and tills say every day.
+//! The fixed inputs, every setting of the Rust and every currency in turn: the spread of 1, 2, 6
+//! and the most groups, and what instruments, scales and tills say every day.
 
 use crate::expect;
 use crate::kinds::{Kind, Manner, CODES};
 use crate::random::Random;
 
-/// Five turns of the 36 Ukrainian settings, fifteen of the 12 French ones.
+/// Five turns of the 36 Ukrainian settings that the Rust has, fifteen of the 12 French ones.
 const COUNT: usize = 180;
 
 /// A text with its phrase.
@@ -91,7 +91,7 @@ pub fn inputs(kind: Kind, figures: Figures) -> Vec<Input> {
 }
 
 fn input(kind: Kind, figures: Figures, turn: usize, random: &mut Random) -> Input {
-    let all = kind.all_settings();
+    let all = kind.ported_settings();
     let settings = all[turn % all.len()];
     let code = if kind == Kind::UkMoney { CODES[turn % CODES.len()] } else { "" };
     let manner = Manner::new(kind, settings, code);

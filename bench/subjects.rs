@@ -36,17 +36,19 @@ impl Measure {
     }
 }
 
-/// Declares a C call and a function that makes a subject of it; the tokens after the name are the
+/// Declares a C call and a function that makes a subject of it: its settings, its name, then the
 /// arguments between the settings and the buffer.
 macro_rules! c_call {
-    ($name:ident, $input:ident, ($($type:ty),*), ($($argument:expr),*)) => {
+    (four, $($call:tt)*) => { c_call!((a, b, c, d), $($call)*); };
+    (three, $($call:tt)*) => { c_call!((a, b, c), $($call)*); };
+    (($($n:ident),*), $name:ident, $input:ident, ($($type:ty),*), ($($argument:expr),*)) => {
         fn $name() -> Subject {
             extern "C" {
-                fn $name(a: u32, b: u32, c: u32, $(_: $type,)* out: *mut u8, room: usize) -> Answer;
+                fn $name($($n: u32,)* $(_: $type,)* out: *mut u8, room: usize) -> Answer;
             }
             Box::new(|$input, out| {
-                let [a, b, c] = $input.manner.settings;
-                unsafe { $name(a, b, c, $($argument,)* out.as_mut_ptr(), out.len()) }.length()
+                let [$($n,)* ..] = $input.manner.settings;
+                unsafe { $name($($n,)* $($argument,)* out.as_mut_ptr(), out.len()) }.length()
             })
         }
     };
@@ -54,34 +56,43 @@ macro_rules! c_call {
 
 /// The same of a measuring call, which is lent no buffer.
 macro_rules! measure_call {
-    ($name:ident, $input:ident, ($($type:ty),*), ($($argument:expr),*)) => {
+    (four, $($call:tt)*) => { measure_call!((a, b, c, d), $($call)*); };
+    (three, $($call:tt)*) => { measure_call!((a, b, c), $($call)*); };
+    (($($n:ident),*), $name:ident, $input:ident, ($($type:ty),*), ($($argument:expr),*)) => {
         fn $name() -> Subject {
             extern "C" {
-                fn $name(a: u32, b: u32, c: u32, $(_: $type),*) -> Measure;
+                fn $name($($n: u32,)* $(_: $type),*) -> Measure;
             }
             Box::new(|$input, _| {
-                let [a, b, c] = $input.manner.settings;
-                unsafe { $name(a, b, c, $($argument),*) }.length()
+                let [$($n,)* ..] = $input.manner.settings;
+                unsafe { $name($($n,)* $($argument),*) }.length()
             })
         }
     };
 }
 
 macro_rules! on_text {
-    ($name:ident, $field:ident) => {
-        on_text!($name, $field, c_call);
+    ($settings:ident, $name:ident, $field:ident) => {
+        on_text!($settings, $name, $field, c_call);
     };
-    ($name:ident, $field:ident, $call:ident) => {
-        $call!($name, input, (*const u8, usize), (input.$field.as_ptr(), input.$field.len()));
+    ($settings:ident, $name:ident, $field:ident, $call:ident) => {
+        $call!(
+            $settings,
+            $name,
+            input,
+            (*const u8, usize),
+            (input.$field.as_ptr(), input.$field.len())
+        );
     };
 }
 
 macro_rules! on_money {
-    ($name:ident, $field:ident) => {
-        on_money!($name, $field, c_call);
+    ($settings:ident, $name:ident, $field:ident) => {
+        on_money!($settings, $name, $field, c_call);
     };
-    ($name:ident, $field:ident, $call:ident) => {
+    ($settings:ident, $name:ident, $field:ident, $call:ident) => {
         $call!(
+            $settings,
             $name,
             input,
             (*const u8, usize, *const u8, usize),
@@ -96,36 +107,36 @@ macro_rules! on_money {
 }
 
 macro_rules! on_year {
-    ($name:ident, $call:ident) => {
-        $call!($name, input, (i64), (input.year));
+    ($settings:ident, $name:ident, $call:ident) => {
+        $call!($settings, $name, input, (i64), (input.year));
     };
 }
 
-on_text!(yokepear_uk_to_cardinal, text);
-on_text!(yokepear_uk_from_cardinal, phrase);
-on_text!(yokepear_fr_to_cardinal, text);
-on_text!(yokepear_fr_from_cardinal, phrase);
-on_text!(yokepear_fr_to_ordinal, text);
-on_text!(yokepear_fr_from_ordinal, phrase);
-on_money!(yokepear_uk_to_currency, text);
-on_money!(yokepear_uk_from_currency, phrase);
-on_text!(yokepear_uk_to_ordinal, text);
-on_text!(yokepear_uk_to_ordinal_num, text);
-on_year!(yokepear_uk_to_year, c_call);
-on_text!(yokepear_uk_measure_cardinal, text, measure_call);
-on_money!(yokepear_uk_measure_currency, text, measure_call);
-on_text!(yokepear_uk_measure_ordinal, text, measure_call);
-on_text!(yokepear_uk_measure_ordinal_num, text, measure_call);
-on_year!(yokepear_uk_measure_year, measure_call);
-on_text!(yokepear_fr_measure_cardinal, text, measure_call);
-on_text!(yokepear_fr_measure_ordinal, text, measure_call);
-on_text!(plain_uk_to_cardinal, text);
-on_text!(plain_uk_to_ordinal, text);
-on_text!(plain_uk_to_ordinal_num, text);
-on_money!(plain_uk_to_currency, text);
-on_year!(plain_uk_to_year, c_call);
-on_text!(plain_fr_to_cardinal, text);
-on_text!(plain_fr_to_ordinal, text);
+on_text!(four, yokepear_uk_to_cardinal, text);
+on_text!(four, yokepear_uk_from_cardinal, phrase);
+on_text!(three, yokepear_fr_to_cardinal, text);
+on_text!(three, yokepear_fr_from_cardinal, phrase);
+on_text!(three, yokepear_fr_to_ordinal, text);
+on_text!(three, yokepear_fr_from_ordinal, phrase);
+on_money!(four, yokepear_uk_to_currency, text);
+on_money!(four, yokepear_uk_from_currency, phrase);
+on_text!(four, yokepear_uk_to_ordinal, text);
+on_text!(four, yokepear_uk_to_ordinal_num, text);
+on_year!(four, yokepear_uk_to_year, c_call);
+on_text!(four, yokepear_uk_measure_cardinal, text, measure_call);
+on_money!(four, yokepear_uk_measure_currency, text, measure_call);
+on_text!(four, yokepear_uk_measure_ordinal, text, measure_call);
+on_text!(four, yokepear_uk_measure_ordinal_num, text, measure_call);
+on_year!(four, yokepear_uk_measure_year, measure_call);
+on_text!(three, yokepear_fr_measure_cardinal, text, measure_call);
+on_text!(three, yokepear_fr_measure_ordinal, text, measure_call);
+on_text!(three, plain_uk_to_cardinal, text);
+on_text!(three, plain_uk_to_ordinal, text);
+on_text!(three, plain_uk_to_ordinal_num, text);
+on_money!(three, plain_uk_to_currency, text);
+on_year!(three, plain_uk_to_year, c_call);
+on_text!(three, plain_fr_to_cardinal, text);
+on_text!(three, plain_fr_to_ordinal, text);
 
 /// The library's spelling call.
 pub fn spelling(kind: Kind) -> Subject {

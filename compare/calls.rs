@@ -19,77 +19,68 @@ pub struct Measure {
     pub length: usize,
 }
 
-/// Declares a call on three settings, one text and a buffer.
-#[rustfmt::skip]
-macro_rules! on_text {
-    ($name:ident) => {
+/// Declares Ukrainian calls; the settings, which stand at the front, are left out.
+macro_rules! ukrainian {
+    ($(fn $name:ident($($rest:ident: $type:ty),*) -> $answer:ty;)*) => {
         extern "C" {
-            fn $name(a: u32, b: u32, c: u32, s: *const u8, n: usize, out: *mut u8, room: usize)
-                -> Answer;
+            $(fn $name(a: u32, b: u32, c: u32, d: u32, $($rest: $type),*) -> $answer;)*
         }
     };
 }
 
-/// Declares a call that has a currency code before its text.
-#[rustfmt::skip]
-macro_rules! on_code_and_text {
-    ($name:ident) => {
+/// The same of French ones.
+macro_rules! french {
+    ($(fn $name:ident($($rest:ident: $type:ty),*) -> $answer:ty;)*) => {
         extern "C" {
-            fn $name(a: u32, b: u32, c: u32, code: *const u8, k: usize, s: *const u8, n: usize,
-                out: *mut u8, room: usize) -> Answer;
+            $(fn $name(a: u32, b: u32, c: u32, $($rest: $type),*) -> $answer;)*
         }
     };
 }
 
-/// Declares a call that measures what is said of one text.
-macro_rules! measuring_text {
-    ($name:ident) => {
-        extern "C" {
-            fn $name(a: u32, b: u32, c: u32, s: *const u8, n: usize) -> Measure;
-        }
-    };
-}
-
-on_text!(yokepear_uk_to_cardinal);
-on_text!(yokepear_uk_from_cardinal);
-on_text!(yokepear_uk_to_ordinal);
-on_text!(yokepear_uk_to_ordinal_num);
-on_text!(yokepear_fr_to_cardinal);
-on_text!(yokepear_fr_from_cardinal);
-on_text!(yokepear_fr_to_ordinal);
-on_text!(yokepear_fr_from_ordinal);
-on_code_and_text!(yokepear_uk_to_currency);
-on_code_and_text!(yokepear_uk_from_currency);
-measuring_text!(yokepear_uk_measure_cardinal);
-measuring_text!(yokepear_uk_measure_ordinal);
-measuring_text!(yokepear_uk_measure_ordinal_num);
-measuring_text!(yokepear_fr_measure_cardinal);
-measuring_text!(yokepear_fr_measure_ordinal);
+type Bytes = *const u8;
+type Room = *mut u8;
 
 #[rustfmt::skip]
-extern "C" {
-    fn yokepear_uk_to_year(a: u32, b: u32, c: u32, year: i64, out: *mut u8, room: usize) -> Answer;
-    fn yokepear_uk_measure_year(a: u32, b: u32, c: u32, year: i64) -> Measure;
-    fn yokepear_uk_measure_currency(a: u32, b: u32, c: u32, code: *const u8, k: usize,
-        s: *const u8, n: usize) -> Measure;
+ukrainian! {
+    fn yokepear_uk_to_cardinal(s: Bytes, n: usize, out: Room, room: usize) -> Answer;
+    fn yokepear_uk_to_ordinal(s: Bytes, n: usize, out: Room, room: usize) -> Answer;
+    fn yokepear_uk_to_ordinal_num(s: Bytes, n: usize, out: Room, room: usize) -> Answer;
+    fn yokepear_uk_to_year(year: i64, out: Room, room: usize) -> Answer;
+    fn yokepear_uk_to_currency(
+        code: Bytes, k: usize, s: Bytes, n: usize, out: Room, room: usize) -> Answer;
+    fn yokepear_uk_from_cardinal(s: Bytes, n: usize, out: Room, room: usize) -> Answer;
+    fn yokepear_uk_from_currency(
+        code: Bytes, k: usize, s: Bytes, n: usize, out: Room, room: usize) -> Answer;
+    fn yokepear_uk_measure_cardinal(s: Bytes, n: usize) -> Measure;
+    fn yokepear_uk_measure_ordinal(s: Bytes, n: usize) -> Measure;
+    fn yokepear_uk_measure_ordinal_num(s: Bytes, n: usize) -> Measure;
+    fn yokepear_uk_measure_year(year: i64) -> Measure;
+    fn yokepear_uk_measure_currency(code: Bytes, k: usize, s: Bytes, n: usize) -> Measure;
 }
 
-/// Calls a function on a manner's settings, a text and a buffer.
-macro_rules! ask {
-    ($call:ident, $manner:expr, $text:expr, $out:expr) => {{
-        let [a, b, c] = $manner.settings;
-        let (s, out) = ($text, $out);
-        unsafe { $call(a, b, c, s.as_ptr(), s.len(), out.as_mut_ptr(), out.len()) }
+#[rustfmt::skip]
+french! {
+    fn yokepear_fr_to_cardinal(s: Bytes, n: usize, out: Room, room: usize) -> Answer;
+    fn yokepear_fr_to_ordinal(s: Bytes, n: usize, out: Room, room: usize) -> Answer;
+    fn yokepear_fr_from_cardinal(s: Bytes, n: usize, out: Room, room: usize) -> Answer;
+    fn yokepear_fr_from_ordinal(s: Bytes, n: usize, out: Room, room: usize) -> Answer;
+    fn yokepear_fr_measure_cardinal(s: Bytes, n: usize) -> Measure;
+    fn yokepear_fr_measure_ordinal(s: Bytes, n: usize) -> Measure;
+}
+
+/// Asks a Ukrainian call in a manner's settings.
+macro_rules! uk {
+    ($call:ident, $manner:ident, $($argument:expr),*) => {{
+        let [a, b, c, d] = $manner.settings;
+        unsafe { $call(a, b, c, d, $($argument),*) }
     }};
 }
 
-/// The same with the manner's currency code.
-macro_rules! ask_money {
-    ($call:ident, $manner:expr, $text:expr, $out:expr) => {{
-        let [a, b, c] = $manner.settings;
-        let (code, s, out) = ($manner.code, $text, $out);
-        let (code, k, s, n) = (code.as_ptr(), code.len(), s.as_ptr(), s.len());
-        unsafe { $call(a, b, c, code, k, s, n, out.as_mut_ptr(), out.len()) }
+/// Asks a French one.
+macro_rules! fr {
+    ($call:ident, $manner:ident, $($argument:expr),*) => {{
+        let [a, b, c, ..] = $manner.settings;
+        unsafe { $call(a, b, c, $($argument),*) }
     }};
 }
 
@@ -100,44 +91,42 @@ fn year(text: &[u8]) -> i64 {
 
 /// The spelling call's answer. A year's text must be an i64.
 pub fn spell(manner: &Manner, text: &[u8], out: &mut [u8]) -> Answer {
+    let (code, k, s, n) = (manner.code.as_ptr(), manner.code.len(), text.as_ptr(), text.len());
+    let (out, room) = (out.as_mut_ptr(), out.len());
     match manner.kind {
-        Kind::UkCardinal => ask!(yokepear_uk_to_cardinal, manner, text, out),
-        Kind::UkMoney => ask_money!(yokepear_uk_to_currency, manner, text, out),
-        Kind::UkOrdinal => ask!(yokepear_uk_to_ordinal, manner, text, out),
-        Kind::UkDigitOrdinal => ask!(yokepear_uk_to_ordinal_num, manner, text, out),
-        Kind::UkYear => {
-            let [a, b, c] = manner.settings;
-            unsafe { yokepear_uk_to_year(a, b, c, year(text), out.as_mut_ptr(), out.len()) }
-        }
-        Kind::FrCardinal => ask!(yokepear_fr_to_cardinal, manner, text, out),
-        Kind::FrOrdinal => ask!(yokepear_fr_to_ordinal, manner, text, out),
+        Kind::UkCardinal => uk!(yokepear_uk_to_cardinal, manner, s, n, out, room),
+        Kind::UkMoney => uk!(yokepear_uk_to_currency, manner, code, k, s, n, out, room),
+        Kind::UkOrdinal => uk!(yokepear_uk_to_ordinal, manner, s, n, out, room),
+        Kind::UkDigitOrdinal => uk!(yokepear_uk_to_ordinal_num, manner, s, n, out, room),
+        Kind::UkYear => uk!(yokepear_uk_to_year, manner, year(text), out, room),
+        Kind::FrCardinal => fr!(yokepear_fr_to_cardinal, manner, s, n, out, room),
+        Kind::FrOrdinal => fr!(yokepear_fr_to_ordinal, manner, s, n, out, room),
     }
 }
 
 /// The measuring call's answer. A year's text must be an i64.
 pub fn measure(manner: &Manner, text: &[u8]) -> Measure {
-    let ([a, b, c], s, n) = (manner.settings, text.as_ptr(), text.len());
-    let (code, k) = (manner.code.as_ptr(), manner.code.len());
-    unsafe {
-        match manner.kind {
-            Kind::UkCardinal => yokepear_uk_measure_cardinal(a, b, c, s, n),
-            Kind::UkMoney => yokepear_uk_measure_currency(a, b, c, code, k, s, n),
-            Kind::UkOrdinal => yokepear_uk_measure_ordinal(a, b, c, s, n),
-            Kind::UkDigitOrdinal => yokepear_uk_measure_ordinal_num(a, b, c, s, n),
-            Kind::UkYear => yokepear_uk_measure_year(a, b, c, year(text)),
-            Kind::FrCardinal => yokepear_fr_measure_cardinal(a, b, c, s, n),
-            Kind::FrOrdinal => yokepear_fr_measure_ordinal(a, b, c, s, n),
-        }
+    let (code, k, s, n) = (manner.code.as_ptr(), manner.code.len(), text.as_ptr(), text.len());
+    match manner.kind {
+        Kind::UkCardinal => uk!(yokepear_uk_measure_cardinal, manner, s, n),
+        Kind::UkMoney => uk!(yokepear_uk_measure_currency, manner, code, k, s, n),
+        Kind::UkOrdinal => uk!(yokepear_uk_measure_ordinal, manner, s, n),
+        Kind::UkDigitOrdinal => uk!(yokepear_uk_measure_ordinal_num, manner, s, n),
+        Kind::UkYear => uk!(yokepear_uk_measure_year, manner, year(text)),
+        Kind::FrCardinal => fr!(yokepear_fr_measure_cardinal, manner, s, n),
+        Kind::FrOrdinal => fr!(yokepear_fr_measure_ordinal, manner, s, n),
     }
 }
 
 /// The reading call's answer; the kind is one that is read.
 pub fn read(manner: &Manner, phrase: &[u8], out: &mut [u8]) -> Answer {
+    let (code, k, s, n) = (manner.code.as_ptr(), manner.code.len(), phrase.as_ptr(), phrase.len());
+    let (out, room) = (out.as_mut_ptr(), out.len());
     match manner.kind {
-        Kind::UkCardinal => ask!(yokepear_uk_from_cardinal, manner, phrase, out),
-        Kind::UkMoney => ask_money!(yokepear_uk_from_currency, manner, phrase, out),
-        Kind::FrCardinal => ask!(yokepear_fr_from_cardinal, manner, phrase, out),
-        Kind::FrOrdinal => ask!(yokepear_fr_from_ordinal, manner, phrase, out),
+        Kind::UkCardinal => uk!(yokepear_uk_from_cardinal, manner, s, n, out, room),
+        Kind::UkMoney => uk!(yokepear_uk_from_currency, manner, code, k, s, n, out, room),
+        Kind::FrCardinal => fr!(yokepear_fr_from_cardinal, manner, s, n, out, room),
+        Kind::FrOrdinal => fr!(yokepear_fr_from_ordinal, manner, s, n, out, room),
         kind => unreachable!("no call reads {}", kind.name()),
     }
 }

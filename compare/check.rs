@@ -59,20 +59,42 @@ impl Checker {
         if !can_be_asked(manner, text) {
             return Ok(());
         }
+        self.compare_spelling(manner, text, &expect::spelling(manner, text))
+    }
+
+    /// The same with each sign, in a manner that has the Rust's, which is asked but once.
+    pub fn spelled_with_every_sign(
+        &mut self,
+        manner: &Manner,
+        text: &[u8],
+    ) -> Result<(), Difference> {
+        if !can_be_asked(manner, text) {
+            return Ok(());
+        }
+        let published = expect::spelling(manner, text);
+        let mut manners = manner.with_every_sign();
+        manners.try_for_each(|m| self.compare_spelling(&m, text, &published.with_sign_of(&m)))
+    }
+
+    fn compare_spelling(
+        &mut self,
+        manner: &Manner,
+        text: &[u8],
+        expected: &Expected,
+    ) -> Result<(), Difference> {
         let fail = |what| difference(manner, Task::Spelling, text, what);
         let ask = |out: &mut [u8]| calls::spell(manner, text, out);
-        let expected = expect::spelling(manner, text);
-        match &expected {
+        match expected {
             Expected::Refused(refusal) => {
                 self.counts.refused += 1;
                 self.compare(ROOM, Outcome::Refused(*refusal), ask).map_err(fail)?;
-                self.compare_measure(manner, text, &expected)
+                self.compare_measure(manner, text, expected)
             }
             Expected::Said(phrase) => {
                 self.counts.spelled += 1;
                 let outcome = Outcome::Bytes(phrase.as_bytes());
                 self.compare_rooms(outcome, phrase.len(), ask).map_err(fail)?;
-                self.compare_measure(manner, text, &expected)?;
+                self.compare_measure(manner, text, expected)?;
                 self.read_back(manner, phrase.as_bytes(), text)
             }
         }

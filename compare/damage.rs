@@ -2,7 +2,7 @@
 
 use crate::check::{Checker, Difference};
 use crate::expect;
-use crate::kinds::{all_manners, Kind, Manner, CODES, KINDS};
+use crate::kinds::{all_manners, set, Kind, Manner, Settings, CODES, KINDS, SIGNS};
 use crate::random::Random;
 use crate::texts;
 use crate::Size;
@@ -28,6 +28,7 @@ pub fn run(kind: Kind, size: &Size, checker: &mut Checker, random: &mut Random) 
     let phrases = spread(kind, size.word_phrases, usize::MAX, checker, random);
     for spelled in &phrases {
         words_moved(spelled, &phrases, checker, random)?;
+        signs_exchanged(spelled, checker)?;
         other_manners(spelled, checker, random)?;
     }
     random_phrases(kind, size, &phrases, checker, random)?;
@@ -61,7 +62,7 @@ fn spread(
 
 /// A phrase that is about as long as any of its kind.
 fn longest(kind: Kind) -> Spelled {
-    let settings = if kind.is_french() { [0, 0, 0] } else { [0, 0, 4] };
+    let settings = if kind.is_french() { [0; 4] } else { [0, 0, 4, 1] };
     let manner = Manner::new(kind, settings, "ILS");
     let text = match kind {
         Kind::UkMoney => "14989989989989989989.89".to_string(),
@@ -163,6 +164,23 @@ fn words_moved(
     Ok(())
 }
 
+/// Each sign of a phrase, alone and with all after it, exchanged for another, left out, doubled.
+fn signs_exchanged(spelled: &Spelled, checker: &mut Checker) -> Outcome {
+    let phrase = std::str::from_utf8(&spelled.phrase).expect("a phrase is UTF-8");
+    let Some(sign) = spelled.manner.sign() else { return Ok(()) };
+    let doubled = sign.repeat(2);
+    for (at, _) in phrase.match_indices(sign) {
+        let (before, after) = (&phrase[..at], &phrase[at + sign.len()..]);
+        for other in SIGNS.into_iter().chain(["", &doubled]).filter(|other| *other != sign) {
+            let alone = [before, other, after].concat();
+            checker.read(&spelled.manner, alone.as_bytes())?;
+            let all = [before, other, &after.replace(sign, other)].concat();
+            checker.read(&spelled.manner, all.as_bytes())?;
+        }
+    }
+    Ok(())
+}
+
 /// The phrase read in every other setting, with other codes, and as the other kinds.
 fn other_manners(spelled: &Spelled, checker: &mut Checker, random: &mut Random) -> Outcome {
     for kind in KINDS.into_iter().filter(|kind| kind.is_read()) {
@@ -204,7 +222,7 @@ fn random_phrases(
         checker.read(manner, &random_words(phrases, length, random))?;
         checker.read(manner, &[&spelled.phrase, &b" "[..]].concat().repeat(length / 16))?;
     }
-    let manner = Manner::new(kind, [0, 0, 0], "UAH");
+    let manner = Manner::new(kind, Settings::default(), "UAH");
     for word in [" ", "-", "один", "un", "mille ", "тисяча "] {
         checker.read(&manner, word.repeat(LONGEST / word.len()).as_bytes())?;
     }
@@ -229,12 +247,11 @@ fn random_words(phrases: &[Spelled], length: usize, random: &mut Random) -> Vec<
 
 /// Settings and codes outside their range come before the phrase.
 fn refused_manners(kind: Kind, checker: &mut Checker) -> Outcome {
-    let good = Manner::new(kind, [0, 0, 0], "UAH");
+    let good = Manner::new(kind, Settings::default(), "UAH");
     let phrase = expect::phrase(&good, b"42").into_bytes();
-    for (at, size) in kind.setting_sizes().into_iter().enumerate() {
-        for wrong in [size, size + 1, 255, 256, 65536, 1 << 31, u32::MAX] {
-            let mut settings = [0; 3];
-            settings[at] = wrong;
+    for (at, size) in kind.setting_sizes().iter().enumerate() {
+        for wrong in [*size, size + 1, 255, 256, 65536, 1 << 31, u32::MAX] {
+            let settings = set(Settings::default(), at, wrong);
             for code in ["UAH", "EURO"] {
                 checker.read(&Manner::new(kind, settings, code), &phrase)?;
                 checker.read(&Manner::new(kind, settings, code), b"?")?;
@@ -242,8 +259,8 @@ fn refused_manners(kind: Kind, checker: &mut Checker) -> Outcome {
         }
     }
     for code in ["", "uah", "UA", "UAHH", "EURO", "DOLLARS"] {
-        checker.read(&Manner::new(kind, [0, 0, 0], code), &phrase)?;
-        checker.read(&Manner::new(kind, [0, 0, 0], code), b"?")?;
+        checker.read(&Manner::new(kind, Settings::default(), code), &phrase)?;
+        checker.read(&Manner::new(kind, Settings::default(), code), b"?")?;
     }
     Ok(())
 }

@@ -1,6 +1,6 @@
 //! What a spelling call must answer: the rules of refusal, then the published Rust's phrase.
 
-use crate::kinds::{Kind, Manner, Settings};
+use crate::kinds::{Kind, Manner, Settings, SIGNS};
 use reference::lang::fr::{French, RegionFrench};
 use reference::lang::uk::{Declension, Gender, GrammaticalNumber, Ukrainian};
 use reference::{BigFloat, Currency, Language};
@@ -10,6 +10,16 @@ use reference::{BigFloat, Currency, Language};
 pub enum Expected {
     Refused(u32),
     Said(String),
+}
+
+impl Expected {
+    /// The same answer in a manner that differs in the sign alone; this one has the Rust's.
+    pub fn with_sign_of(&self, manner: &Manner) -> Expected {
+        match self {
+            Expected::Refused(refusal) => Expected::Refused(*refusal),
+            Expected::Said(phrase) => Expected::Said(with_sign(phrase.clone(), manner)),
+        }
+    }
 }
 
 /// The answer for any settings, code and text. The first refusal that applies is given.
@@ -24,7 +34,7 @@ pub fn spelling(manner: &Manner, text: &[u8]) -> Expected {
 /// 1 for a setting outside its range, used or not; 2 for a code that is not one of the 44.
 pub fn refusal_of_manner(manner: &Manner) -> Option<u32> {
     let sizes = manner.kind.setting_sizes();
-    if manner.settings.iter().zip(sizes).any(|(setting, size)| *setting >= size) {
+    if manner.settings.iter().zip(sizes).any(|(setting, size)| setting >= size) {
         return Some(1);
     }
     (manner.kind == Kind::UkMoney && currency(manner.code).is_none()).then_some(2)
@@ -74,8 +84,19 @@ fn above(digits: &[u8], limit: &str) -> bool {
     (digits.len(), digits) > (limit.len(), limit.as_bytes())
 }
 
-/// The published Rust's phrase for an admitted text.
+/// The published Rust's phrase for an admitted text, its apostrophes replaced by the manner's sign.
 pub fn phrase(manner: &Manner, text: &[u8]) -> String {
+    with_sign(published(manner, text), manner)
+}
+
+fn with_sign(phrase: String, manner: &Manner) -> String {
+    match manner.sign() {
+        Some(sign) if sign != SIGNS[0] => phrase.replace(SIGNS[0], sign),
+        _ => phrase,
+    }
+}
+
+fn published(manner: &Manner, text: &[u8]) -> String {
     let text = std::str::from_utf8(text).expect("an admitted text is ASCII");
     let number = BigFloat::parse(text).expect("an admitted text is a number");
     let said = match manner.kind {
@@ -97,7 +118,7 @@ fn currency(code: &[u8]) -> Option<Currency> {
     std::str::from_utf8(code).ok()?.parse().ok()
 }
 
-fn ukrainian([gender, number, case]: Settings) -> Ukrainian {
+fn ukrainian([gender, number, case, _]: Settings) -> Ukrainian {
     let genders = [Gender::Masculine, Gender::Feminine, Gender::Neuter];
     let numbers = [GrammaticalNumber::Singular, GrammaticalNumber::Plural];
     let cases = [
@@ -111,7 +132,7 @@ fn ukrainian([gender, number, case]: Settings) -> Ukrainian {
     Ukrainian::new(genders[gender as usize], numbers[number as usize], cases[case as usize])
 }
 
-fn french([feminine, reformed, region]: Settings) -> French {
+fn french([feminine, reformed, region, _]: Settings) -> French {
     let regions = [RegionFrench::FR, RegionFrench::BE, RegionFrench::CH];
     French::new(feminine == 1, reformed == 1, regions[region as usize])
 }

@@ -5,7 +5,7 @@
 //! taken from the Rust's own phrases.
 
 use crate::expect;
-use crate::kinds::{Kind, Manner};
+use crate::kinds::{Kind, Manner, Settings};
 use std::collections::HashMap;
 
 /// What a word adds to a number, whatever the settings.
@@ -154,7 +154,7 @@ fn learn(words: &mut Dictionary, word: &str, meaning: Meaning) {
     assert!(known.is_none_or(|k| k == meaning), "{word} has two meanings");
 }
 
-fn say(kind: Kind, settings: [u32; 3], text: &str) -> String {
+fn say(kind: Kind, settings: Settings, text: &str) -> String {
     expect::phrase(&Manner::new(kind, settings, ""), text.as_bytes())
 }
 

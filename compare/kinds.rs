@@ -30,8 +30,14 @@ pub enum Task {
     Reading,
 }
 
-/// Ukrainian: gender, number, case. French: feminine, reformed, region.
-pub type Settings = [u32; 3];
+/// Ukrainian: gender, number, case, apostrophe. French: feminine, reformed, region, and a 0.
+pub type Settings = [u32; 4];
+
+/// Where the apostrophe stands among the Ukrainian settings.
+const APOSTROPHE: usize = 3;
+
+/// The apostrophes by their numbers. The first is the Rust's.
+pub const SIGNS: [&str; 3] = ["\u{2bc}", "\u{2019}", "'"];
 
 impl Kind {
     pub fn name(self) -> &'static str {
@@ -101,18 +107,27 @@ impl Kind {
     }
 
     /// How many numbers each setting has: 0 up to one less.
-    pub fn setting_sizes(self) -> [u32; 3] {
+    pub fn setting_sizes(self) -> &'static [u32] {
         if self.is_french() {
-            [2, 2, 3]
+            &[2, 2, 3]
         } else {
-            [3, 2, 6]
+            &[3, 2, 6, 3]
         }
     }
 
     pub fn all_settings(self) -> Vec<Settings> {
-        let [a, b, c] = self.setting_sizes();
-        let each = |x| (0..b).flat_map(move |y| (0..c).map(move |z| [x, y, z]));
-        (0..a).flat_map(each).collect()
+        let mut all = vec![Settings::default()];
+        for (at, size) in self.setting_sizes().iter().enumerate() {
+            let each = |settings| (0..*size).map(move |number| set(settings, at, number));
+            all = all.into_iter().flat_map(each).collect();
+        }
+        all
+    }
+
+    /// The settings that the Rust has, in the same order; those that came later are 0.
+    pub fn ported_settings(self) -> Vec<Settings> {
+        let all = self.all_settings().into_iter();
+        all.filter(|settings| settings[PORTED..].iter().all(|number| *number == 0)).collect()
     }
 
     pub fn takes_sign(self) -> bool {
@@ -129,6 +144,15 @@ impl Kind {
             Kind::UkYear => i64::MAX.to_string(),
         }
     }
+}
+
+/// How many settings the Rust has, in either language.
+pub const PORTED: usize = 3;
+
+/// The settings with another number at a place.
+pub fn set(mut settings: Settings, at: usize, number: u32) -> Settings {
+    settings[at] = number;
+    settings
 }
 
 /// The 44 currency codes, in the order of the published enum.
@@ -152,17 +176,38 @@ impl<'a> Manner<'a> {
         Manner { kind, settings, code: code.as_bytes() }
     }
 
+    /// The sign that stands for the Rust's; French has none.
+    pub fn sign(&self) -> Option<&'static str> {
+        (!self.kind.is_french()).then(|| SIGNS[self.settings[APOSTROPHE] as usize])
+    }
+
+    /// The manner with each sign in turn; in French the manner alone.
+    pub fn with_every_sign(self) -> impl Iterator<Item = Manner<'a>> {
+        let signs = if self.kind.is_french() { 1 } else { SIGNS.len() as u32 };
+        (0..signs).map(move |n| Manner { settings: set(self.settings, APOSTROPHE, n), ..self })
+    }
+
     pub fn show(&self) -> String {
-        let [a, b, c] = self.settings;
+        let settings = &self.settings[..self.kind.setting_sizes().len()];
+        let settings: String = settings.iter().map(|number| format!(" {number}")).collect();
         let code = String::from_utf8_lossy(self.code);
         let code = if self.kind == Kind::UkMoney { format!(" {code}") } else { String::new() };
-        format!("{} {a} {b} {c}{code}", self.kind.name())
+        format!("{}{settings}{code}", self.kind.name())
     }
 }
 
 /// Every manner of a kind: all settings and, for money, all codes.
 pub fn all_manners(kind: Kind) -> Vec<Manner<'static>> {
+    manners(kind, kind.all_settings())
+}
+
+/// Every manner in the settings that the Rust has.
+pub fn ported_manners(kind: Kind) -> Vec<Manner<'static>> {
+    manners(kind, kind.ported_settings())
+}
+
+fn manners(kind: Kind, settings: Vec<Settings>) -> Vec<Manner<'static>> {
     let codes: &[&str] = if kind == Kind::UkMoney { &CODES } else { &[""] };
     let each = |settings| codes.iter().map(move |code| Manner::new(kind, settings, code));
-    kind.all_settings().into_iter().flat_map(each).collect()
+    settings.into_iter().flat_map(each).collect()
 }

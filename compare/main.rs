@@ -28,9 +28,9 @@ pub struct Size {
     pub full: bool,
     /// All texts up to here where the settings are few.
     pub few_settings: u32,
-    /// All texts up to here in each of the 36 Ukrainian settings.
+    /// All texts up to here in each of the 108 Ukrainian settings.
     pub many_settings: u32,
-    /// All texts up to here in each of the 36 settings and 44 currencies.
+    /// All texts up to here in each of the 108 settings and 44 currencies.
     pub most_settings: u32,
     /// All amounts up to so many hundredths in the same.
     pub hundredths: u32,

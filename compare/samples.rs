@@ -40,7 +40,7 @@ fn expected_answers() -> String {
     let mut table = HEADER.to_string();
     for kind in KINDS {
         for (manner, text) in spread(kind) {
-            let [a, b, c] = manner.settings;
+            let [a, b, c, _] = manner.settings;
             let code = String::from_utf8_lossy(manner.code);
             let code = if code.is_empty() { String::new() } else { format!(" {code}") };
             let phrase = expect::phrase(&manner, text.as_bytes());
@@ -57,12 +57,13 @@ fn spread(kind: Kind) -> Vec<(Manner<'static>, String)> {
         return money_spread();
     }
     let last = kind.setting_sizes()[2];
-    let fronts = kind.all_settings().len() as u32 / last;
+    let all = kind.ported_settings();
+    let fronts = all.len() as u32 / last;
     let mut spread = Vec::new();
     for (at, text) in spread_texts(kind).into_iter().enumerate() {
-        for (turn, settings) in kind.all_settings().into_iter().enumerate() {
+        for (turn, settings) in all.iter().enumerate() {
             if turn as u32 / last == at as u32 % fronts {
-                spread.push((Manner::new(kind, settings, ""), text.clone()));
+                spread.push((Manner::new(kind, *settings, ""), text.clone()));
             }
         }
     }
@@ -76,10 +77,10 @@ fn money_spread() -> Vec<(Manner<'static>, String)> {
                    10000000000000000000 14989989989989989989.89";
     let amounts: Vec<&str> = amounts.split_whitespace().collect();
     let mut spread = Vec::new();
-    let settings = Kind::UkMoney.all_settings();
+    let settings = Kind::UkMoney.ported_settings();
     for (turn, (code, case)) in CODES.iter().flat_map(|c| (0..6).map(move |k| (c, k))).enumerate() {
         let front = settings[(turn * 6) % settings.len()];
-        let manner = Manner::new(Kind::UkMoney, [front[0], front[1], case], code);
+        let manner = Manner::new(Kind::UkMoney, [front[0], front[1], case, 0], code);
         spread.push((manner, amounts[turn * 7 % amounts.len()].to_string()));
     }
     spread

@@ -1,7 +1,7 @@
 //! The texts that are spoken, compared and read back, kind by kind.
 
 use crate::check::{Checker, Difference};
-use crate::kinds::{all_manners, Kind, Manner};
+use crate::kinds::{all_manners, ported_manners, set, Kind, Manner, Settings};
 use crate::random::Random;
 use crate::texts;
 use crate::Size;
@@ -9,7 +9,7 @@ use crate::Size;
 type Outcome = Result<(), Difference>;
 
 pub fn run(kind: Kind, size: &Size, checker: &mut Checker, random: &mut Random) -> Outcome {
-    for manner in all_manners(kind) {
+    for manner in ported_manners(kind) {
         short(&manner, size, checker)?;
     }
     for manner in all_manners(kind) {
@@ -30,7 +30,7 @@ fn short(manner: &Manner, size: &Size, checker: &mut Checker) -> Outcome {
     };
     let hundredths = if manner.kind == Kind::UkMoney { size.hundredths } else { 0 };
     let mut texts = texts::short(manner.kind, up_to).chain(texts::hundredths(hundredths));
-    texts.try_for_each(|text| checker.spelled(manner, text.as_bytes()))
+    texts.try_for_each(|text| checker.spelled_with_every_sign(manner, text.as_bytes()))
 }
 
 fn refused(manner: &Manner, checker: &mut Checker) -> Outcome {
@@ -39,11 +39,11 @@ fn refused(manner: &Manner, checker: &mut Checker) -> Outcome {
 
 /// All boundaries in all settings; money takes them in every currency, with the settings in turn.
 fn boundaries(kind: Kind, size: &Size, checker: &mut Checker) -> Outcome {
-    let manners = all_manners(kind);
+    let manners = ported_manners(kind);
     let step = if kind == Kind::UkMoney && !size.full { 17 } else { 1 };
     for (at, text) in texts::boundaries(kind).iter().enumerate() {
         for manner in manners.iter().skip(at % step).step_by(step) {
-            checker.spelled(manner, text.as_bytes())?;
+            checker.spelled_with_every_sign(manner, text.as_bytes())?;
         }
     }
     Ok(())
@@ -74,10 +74,9 @@ fn edited_texts(kind: Kind, size: &Size, checker: &mut Checker, random: &mut Ran
 
 /// Each setting outside its range, with good and bad texts and codes.
 fn other_settings(kind: Kind, checker: &mut Checker) -> Outcome {
-    for (at, size) in kind.setting_sizes().into_iter().enumerate() {
-        for wrong in [size, size + 1, 255, 256, 65536, 1 << 31, u32::MAX] {
-            let mut settings = [0; 3];
-            settings[at] = wrong;
+    for (at, size) in kind.setting_sizes().iter().enumerate() {
+        for wrong in [*size, size + 1, 255, 256, 65536, 1 << 31, u32::MAX] {
+            let settings = set(Settings::default(), at, wrong);
             for code in ["UAH", "EURO"] {
                 let manner = Manner::new(kind, settings, code);
                 for text in ["1", "0", "007", "-1", "1.50", "-0.50", ""] {

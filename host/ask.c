@@ -94,7 +94,7 @@ struct call *reading_call(const struct call *spelling) {
 int setting_count(const struct call *call) { return call->french ? FR_SETTINGS : UK_SETTINGS; }
 
 uint32_t setting_size(const struct call *call, int setting) {
-  static const uint32_t ukrainian[UK_SETTINGS] = {3, 2, 6}, french[FR_SETTINGS] = {2, 2, 3};
+  static const uint32_t ukrainian[UK_SETTINGS] = {3, 2, 6, 3}, french[FR_SETTINGS] = {2, 2, 3};
   return call->french ? french[setting] : ukrainian[setting];
 }
 
@@ -131,12 +131,12 @@ yokepear_answer ask_by_number(const struct request *r, uint8_t *out, size_t out_
   struct call *call = r->call;
   const uint32_t *s = r->settings.numbers;
   call->done.asked++;
-  if (call->uk_on_year) return call->uk_on_year(s[0], s[1], s[2], r->year, out, out_length);
+  if (call->uk_on_year) return call->uk_on_year(s[0], s[1], s[2], s[3], r->year, out, out_length);
   if (call->uk_on_money)
-    return call->uk_on_money(s[0], s[1], s[2], r->code, r->code_length, r->input, r->input_length,
-                             out, out_length);
+    return call->uk_on_money(s[0], s[1], s[2], s[3], r->code, r->code_length, r->input,
+                             r->input_length, out, out_length);
   if (call->uk_on_text)
-    return call->uk_on_text(s[0], s[1], s[2], r->input, r->input_length, out, out_length);
+    return call->uk_on_text(s[0], s[1], s[2], s[3], r->input, r->input_length, out, out_length);
   return call->fr_on_text(s[0], s[1], s[2], r->input, r->input_length, out, out_length);
 }
 
@@ -149,9 +149,10 @@ yokepear_measure measure_by_number(const struct request *r) {
   struct measuring *call = &r->call->measuring;
   const uint32_t *s = r->settings.numbers;
   call->done.asked++;
-  if (call->uk_on_year) return call->uk_on_year(s[0], s[1], s[2], r->year);
+  if (call->uk_on_year) return call->uk_on_year(s[0], s[1], s[2], s[3], r->year);
   if (call->uk_on_money)
-    return call->uk_on_money(s[0], s[1], s[2], r->code, r->code_length, r->input, r->input_length);
-  if (call->uk_on_text) return call->uk_on_text(s[0], s[1], s[2], r->input, r->input_length);
+    return call->uk_on_money(s[0], s[1], s[2], s[3], r->code, r->code_length, r->input,
+                             r->input_length);
+  if (call->uk_on_text) return call->uk_on_text(s[0], s[1], s[2], s[3], r->input, r->input_length);
   return call->fr_on_text(s[0], s[1], s[2], r->input, r->input_length);
 }

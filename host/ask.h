@@ -28,18 +28,20 @@ struct request {
   int64_t year;
 };
 
-typedef yokepear_answer uk_text_call(uint32_t, uint32_t, uint32_t, const void *, size_t, void *,
-                                     size_t);
-typedef yokepear_answer uk_money_call(uint32_t, uint32_t, uint32_t, const void *, size_t,
+typedef yokepear_answer uk_text_call(uint32_t, uint32_t, uint32_t, uint32_t, const void *, size_t,
+                                     void *, size_t);
+typedef yokepear_answer uk_money_call(uint32_t, uint32_t, uint32_t, uint32_t, const void *, size_t,
                                       const void *, size_t, void *, size_t);
-typedef yokepear_answer uk_year_call(uint32_t, uint32_t, uint32_t, int64_t, void *, size_t);
+typedef yokepear_answer uk_year_call(uint32_t, uint32_t, uint32_t, uint32_t, int64_t, void *,
+                                     size_t);
 typedef yokepear_answer fr_text_call(uint32_t, uint32_t, uint32_t, const void *, size_t, void *,
                                      size_t);
 
-typedef yokepear_measure uk_text_measure(uint32_t, uint32_t, uint32_t, const void *, size_t);
-typedef yokepear_measure uk_money_measure(uint32_t, uint32_t, uint32_t, const void *, size_t,
-                                          const void *, size_t);
-typedef yokepear_measure uk_year_measure(uint32_t, uint32_t, uint32_t, int64_t);
+typedef yokepear_measure uk_text_measure(uint32_t, uint32_t, uint32_t, uint32_t, const void *,
+                                         size_t);
+typedef yokepear_measure uk_money_measure(uint32_t, uint32_t, uint32_t, uint32_t, const void *,
+                                          size_t, const void *, size_t);
+typedef yokepear_measure uk_year_measure(uint32_t, uint32_t, uint32_t, uint32_t, int64_t);
 typedef yokepear_measure fr_text_measure(uint32_t, uint32_t, uint32_t, const void *, size_t);
 
 /* What a spelling call speaks; a reading call reads the same. */

@@ -51,11 +51,16 @@ extern void make(void); void make(void) {'
 }
 
 settings_in_place() {
+  local sign=YOKEPEAR_APOSTROPHE_ASCII
   only_swapped 'settings that have changed places' \
-    'yokepear_uk s = {YOKEPEAR_FEMININE, YOKEPEAR_PLURAL, YOKEPEAR_GENITIVE}; made = s;' \
-    'yokepear_uk s = {YOKEPEAR_GENITIVE, YOKEPEAR_FEMININE, YOKEPEAR_PLURAL}; made = s;' "$@"
+    "yokepear_uk s = {YOKEPEAR_FEMININE, YOKEPEAR_PLURAL, YOKEPEAR_GENITIVE, $sign}; made = s;" \
+    "yokepear_uk s = {$sign, YOKEPEAR_FEMININE, YOKEPEAR_PLURAL, YOKEPEAR_GENITIVE}; made = s;" "$@"
   only_swapped 'a case for a gender' \
     'made.gender = YOKEPEAR_NEUTER;' 'made.gender = YOKEPEAR_DATIVE;' "$@"
+  only_swapped 'an apostrophe for a case' \
+    'made.grammatical_case = YOKEPEAR_DATIVE;' "made.grammatical_case = $sign;" "$@"
+  only_swapped 'a case for an apostrophe' \
+    "made.apostrophe = $sign;" 'made.apostrophe = YOKEPEAR_DATIVE;' "$@"
   only_swapped 'a case for a region' \
     'french.region = YOKEPEAR_CH;' 'french.region = YOKEPEAR_DATIVE;' "$@"
   only_swapped 'the settings of the other language' \

@@ -10,7 +10,8 @@
 
 #include "ask.h"
 
-enum { STACK = 1 << 20, LARGE = 4000, LONG = 64 * 1024, ADDRESS = sizeof(void *) };
+/* The stack is painted and searched for each request, so it is not much larger than calls need. */
+enum { STACK = 1 << 17, LARGE = 4000, LONG = 64 * 1024, ADDRESS = sizeof(void *) };
 
 static uint8_t stack[STACK], out[LARGE], words[LONG];
 static ucontext_t here, there;
@@ -38,7 +39,9 @@ static size_t painted(const struct request *r, uint8_t paint) {
   swapcontext(&here, &there);
   size_t low = 0;
   while (low < STACK && stack[low] == paint) low++;
-  return STACK - low;
+  if (low) return STACK - low;
+  fprintf(stderr, "yokepear_%s: more than %d bytes of stack\n", r->call->name, STACK);
+  exit(1);
 }
 
 /* A byte that happens to be the paint is seen with the other paint. */
@@ -49,52 +52,63 @@ static size_t used(const struct request *r, size_t room) {
 }
 
 /* Calls that do nothing: what asking itself takes. */
-static yokepear_answer no_text(uint32_t a, uint32_t b, uint32_t c, const void *s, size_t n,
+static yokepear_answer no_uk_text(uint32_t a, uint32_t b, uint32_t c, uint32_t d, const void *s,
+                                  size_t n, void *o, size_t room) {
+  (void)a, (void)b, (void)c, (void)d, (void)s, (void)n, (void)o, (void)room;
+  return (yokepear_answer){0, 0};
+}
+static yokepear_answer no_money(uint32_t a, uint32_t b, uint32_t c, uint32_t d, const void *k,
+                                size_t m, const void *s, size_t n, void *o, size_t room) {
+  (void)a, (void)b, (void)c, (void)d, (void)k, (void)m, (void)s, (void)n, (void)o, (void)room;
+  return (yokepear_answer){0, 0};
+}
+static yokepear_answer no_year(uint32_t a, uint32_t b, uint32_t c, uint32_t d, int64_t year,
                                void *o, size_t room) {
+  (void)a, (void)b, (void)c, (void)d, (void)year, (void)o, (void)room;
+  return (yokepear_answer){0, 0};
+}
+static yokepear_answer no_fr_text(uint32_t a, uint32_t b, uint32_t c, const void *s, size_t n,
+                                  void *o, size_t room) {
   (void)a, (void)b, (void)c, (void)s, (void)n, (void)o, (void)room;
-  return (yokepear_answer){0, 0};
-}
-static yokepear_answer no_money(uint32_t a, uint32_t b, uint32_t c, const void *k, size_t m,
-                                const void *s, size_t n, void *o, size_t room) {
-  (void)a, (void)b, (void)c, (void)k, (void)m, (void)s, (void)n, (void)o, (void)room;
-  return (yokepear_answer){0, 0};
-}
-static yokepear_answer no_year(uint32_t a, uint32_t b, uint32_t c, int64_t year, void *o,
-                               size_t room) {
-  (void)a, (void)b, (void)c, (void)year, (void)o, (void)room;
   return (yokepear_answer){0, 0};
 }
 
 /* The same of measuring calls. */
-static yokepear_measure no_text_measure(uint32_t a, uint32_t b, uint32_t c, const void *s,
-                                        size_t n) {
+static yokepear_measure no_uk_text_measure(uint32_t a, uint32_t b, uint32_t c, uint32_t d,
+                                           const void *s, size_t n) {
+  (void)a, (void)b, (void)c, (void)d, (void)s, (void)n;
+  return (yokepear_measure){0, 0, 0};
+}
+static yokepear_measure no_money_measure(uint32_t a, uint32_t b, uint32_t c, uint32_t d,
+                                         const void *k, size_t m, const void *s, size_t n) {
+  (void)a, (void)b, (void)c, (void)d, (void)k, (void)m, (void)s, (void)n;
+  return (yokepear_measure){0, 0, 0};
+}
+static yokepear_measure no_year_measure(uint32_t a, uint32_t b, uint32_t c, uint32_t d,
+                                        int64_t year) {
+  (void)a, (void)b, (void)c, (void)d, (void)year;
+  return (yokepear_measure){0, 0, 0};
+}
+static yokepear_measure no_fr_text_measure(uint32_t a, uint32_t b, uint32_t c, const void *s,
+                                           size_t n) {
   (void)a, (void)b, (void)c, (void)s, (void)n;
-  return (yokepear_measure){0, 0, 0};
-}
-static yokepear_measure no_money_measure(uint32_t a, uint32_t b, uint32_t c, const void *k,
-                                         size_t m, const void *s, size_t n) {
-  (void)a, (void)b, (void)c, (void)k, (void)m, (void)s, (void)n;
-  return (yokepear_measure){0, 0, 0};
-}
-static yokepear_measure no_year_measure(uint32_t a, uint32_t b, uint32_t c, int64_t year) {
-  (void)a, (void)b, (void)c, (void)year;
   return (yokepear_measure){0, 0, 0};
 }
 
 static struct measuring measuring_nothing(struct measuring call) {
-  if (call.uk_on_text) call.uk_on_text = no_text_measure;
+  if (call.uk_on_text) call.uk_on_text = no_uk_text_measure;
   if (call.uk_on_money) call.uk_on_money = no_money_measure;
   if (call.uk_on_year) call.uk_on_year = no_year_measure;
-  if (call.fr_on_text) call.fr_on_text = no_text_measure;
+  if (call.fr_on_text) call.fr_on_text = no_fr_text_measure;
   return call;
 }
 
 static size_t asking_alone(const struct call *call) {
   struct call nothing = *call;
-  if (call->uk_on_text) nothing.uk_on_text = no_text;
+  if (call->uk_on_text) nothing.uk_on_text = no_uk_text;
   if (call->uk_on_money) nothing.uk_on_money = no_money;
   if (call->uk_on_year) nothing.uk_on_year = no_year;
-  if (call->fr_on_text) nothing.fr_on_text = no_text;
+  if (call->fr_on_text) nothing.fr_on_text = no_fr_text;
   nothing.measuring = measuring_nothing(call->measuring);
   struct request r = {0};
   r.call = &nothing;

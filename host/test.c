@@ -20,6 +20,7 @@ int main(int argc, char **argv) {
   test_texts();
   test_codes();
   test_phrases();
+  test_apostrophes();
   test_measures();
   test_sizes();
   size_t measuring = 0;

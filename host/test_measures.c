@@ -5,7 +5,13 @@
 #include "figure.h"
 #include "tests.h"
 
-/* Words and bytes are counted by hand: a Ukrainian letter has two bytes, and so have é and è. */
+#define U2019 {.uk = {.apostrophe = YOKEPEAR_APOSTROPHE_U2019}}
+#define ASCII {.uk = {.apostrophe = YOKEPEAR_APOSTROPHE_ASCII}}
+
+/*
+ * Words and bytes are counted by hand: a Ukrainian letter has two bytes, and so have é and è; the
+ * apostrophe U+02BC has two, U+2019 three, and the ASCII sign one.
+ */
 static const struct {
   const char *call;
   union settings settings;
@@ -15,18 +21,28 @@ static const struct {
 } counted[] = {
     {"uk_to_cardinal", {{0}}, "", "0", "нуль", 1, 8},
     {"uk_to_cardinal", {{0}}, "", "5", "пʼять", 1, 10},
+    {"uk_to_cardinal", U2019, "", "5", "п’ять", 1, 11},
+    {"uk_to_cardinal", ASCII, "", "5", "п'ять", 1, 9},
     {"uk_to_cardinal", {{0}}, "", "-1", "мінус один", 2, 19},
+    {"uk_to_cardinal", U2019, "", "-1", "мінус один", 2, 19},
     {"uk_to_cardinal", {.uk = {.gender = YOKEPEAR_FEMININE}}, "", "42", "сорок дві", 2, 17},
     {"uk_to_ordinal", {{0}}, "", "21000", "двадцятиоднотисячний", 1, 40},
     {"uk_to_ordinal", {.uk = {.number = YOKEPEAR_PLURAL}}, "", "42", "сорок другі", 2, 21},
+    {"uk_to_ordinal", U2019, "", "90", "дев’яностий", 1, 23},
+    {"uk_to_ordinal", ASCII, "", "9", "дев'ятий", 1, 15},
     {"uk_to_ordinal_num", {{0}}, "", "1", "1-й", 1, 4},
+    {"uk_to_ordinal_num", ASCII, "", "59", "59-й", 1, 5},
     {"uk_to_ordinal_num", {.uk = {.grammatical_case = YOKEPEAR_GENITIVE}}, "", "42", "42-го", 1, 7},
     {"uk_to_year", {{0}}, "", "2000", "двохтисячний рік", 2, 31},
     {"uk_to_year", {{0}}, "", "0", "нульовий рік до н.е.", 4, 35},
     {"uk_to_year", {{0}}, "", "-44", "сорок четвертий рік до н.е.", 5, 48},
+    {"uk_to_year", U2019, "", "2009", "дві тисячі дев’ятий рік", 4, 44},
+    {"uk_to_year", ASCII, "", "1995", "одна тисяча дев'ятсот дев'яносто п'ятий рік", 6, 78},
     {"uk_to_currency", {{0}}, "UAH", "0", "нуль гривень", 2, 23},
     {"uk_to_currency", {{0}}, "UAH", "0.11", "одинадцять копійок", 2, 35},
     {"uk_to_currency", {{0}}, "UAH", "1.02", "одна гривня дві копійки", 4, 43},
+    {"uk_to_currency", U2019, "UAH", "5.59", "п’ять гривень п’ятдесят дев’ять копійок", 5, 77},
+    {"uk_to_currency", ASCII, "UAH", "0.95", "дев'яносто п'ять копійок", 3, 44},
     {"uk_to_currency", {{0}}, "ILS", "1", "один новий шекель", 3, 32},
     {"uk_to_currency", {{0}}, "ILS", "2.02", "два нові шекелі дві агори", 5, 46},
     {"fr_to_cardinal", {.fr = {0}}, "", "0", "zéro", 1, 5},

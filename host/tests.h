@@ -17,6 +17,9 @@ void test_codes(void);
 /* Phrases that no setting admits. */
 void test_phrases(void);
 
+/* The apostrophes of Ukrainian words, in all that a call does. */
+void test_apostrophes(void);
+
 /* Lengths and words of phrases, by hand and over many figures; refusals in their order. */
 void test_measures(void);
 

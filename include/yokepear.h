@@ -23,8 +23,8 @@
  *   A number text is ASCII: an optional `-`, then `0` or digits without a leading zero; there is
  *   no `-` before zero. Each call below says how large the number may be.
  *   A phrase is in small letters, its words joined by single spaces or hyphens; the Ukrainian
- *   apostrophe is U+02BC (CA BC). Phrases are those of the library that was ported, num2words, also
- *   where usage has others: docs/DIFFERENCES.md lists them.
+ *   apostrophe is U+02BC (CA BC) unless a setting chooses another. Phrases are those of the library
+ *   that was ported, num2words, also where usage has others: docs/DIFFERENCES.md lists them.
  *
  * Buffers
  *   A call takes any bytes, any lengths and any setting numbers. It reads no byte past an input's
@@ -51,7 +51,7 @@ extern "C" {
 
 /* While the first is 0, a step of the second may add settings to calls that take numbers. */
 #define YOKEPEAR_VERSION_MAJOR 0
-#define YOKEPEAR_VERSION_MINOR 3
+#define YOKEPEAR_VERSION_MINOR 4
 #define YOKEPEAR_VERSION_PATCH 0
 
 #define YOKEPEAR_TEXT_OF_(number) #number
@@ -152,6 +152,16 @@ typedef enum yokepear_grammatical_case YOKEPEAR_32_BITS_ {
   YOKEPEAR_LOCATIVE = 5
 } yokepear_grammatical_case;
 
+/*
+ * The sign that is written in words like п'ять: those for 5 and 9, their teens, tens and hundreds,
+ * and ordinals made of these; no other word has one. Reading takes the chosen sign alone.
+ */
+typedef enum yokepear_apostrophe YOKEPEAR_32_BITS_ {
+  YOKEPEAR_APOSTROPHE_U02BC = 0, /* the letter, CA BC: the sign of the library that was ported */
+  YOKEPEAR_APOSTROPHE_U2019 = 1, /* the punctuation mark, E2 80 99 */
+  YOKEPEAR_APOSTROPHE_ASCII = 2  /* 27 */
+} yokepear_apostrophe;
+
 /* The names of 70, 80 and 90. */
 typedef enum yokepear_region YOKEPEAR_32_BITS_ {
   YOKEPEAR_FR = 0,
@@ -164,11 +174,12 @@ typedef enum yokepear_region YOKEPEAR_32_BITS_ {
 /* With -fshort-enums a number such as 256 would become 0 unseen: that is not compiled. */
 typedef char yokepear_enums_have_32_bits_[sizeof(yokepear_gender) == sizeof(uint32_t) ? 1 : -1];
 
-/* Ukrainian settings by name. All zero: masculine, singular, nominative. */
+/* Ukrainian settings by name. All zero: masculine, singular, nominative, the apostrophe U+02BC. */
 typedef struct {
   yokepear_gender gender;
   yokepear_grammatical_number number;
   yokepear_grammatical_case grammatical_case;
+  yokepear_apostrophe apostrophe;
 } yokepear_uk;
 
 /* French settings by name. All zero: masculine, words joined by spaces, the names of France. */
@@ -179,19 +190,21 @@ typedef struct {
 } yokepear_fr;
 
 /* The settings as a call takes them. */
-#define YOKEPEAR_UK_(settings) (settings).gender, (settings).number, (settings).grammatical_case
+#define YOKEPEAR_UK_(settings) \
+  (settings).gender, (settings).number, (settings).grammatical_case, (settings).apostrophe
 #define YOKEPEAR_FR_(settings) (settings).feminine, (settings).reformed, (settings).region
 
 /* ---- Ukrainian cardinals ------------------------------------------------------------------- */
 
-#define YOKEPEAR_UK_CARDINAL_PHRASE 2267
+#define YOKEPEAR_UK_CARDINAL_PHRASE 2311
 #define YOKEPEAR_UK_CARDINAL_TEXT 67
 
 /*
  * Speaks a number of at most 66 digits: 42, feminine, nominative is `сорок дві`; a negative one
  * begins with `мінус`. `number` has no effect on cardinals. Refuses by 1, 3, 5, 7.
  */
-yokepear_answer yokepear_uk_to_cardinal(uint32_t gender, uint32_t number, uint32_t grammatical_case,
+yokepear_answer yokepear_uk_to_cardinal(uint32_t gender, uint32_t number,
+                                        uint32_t grammatical_case, uint32_t apostrophe,
                                         const void *text, size_t text_length,
                                         void *out, size_t out_length);
 
@@ -203,7 +216,7 @@ static inline yokepear_answer yokepear_uk_to_cardinal_in(yokepear_uk settings,
 
 /* Measures the phrase that yokepear_uk_to_cardinal says. Refuses by 1, 3, 5. */
 yokepear_measure yokepear_uk_measure_cardinal(uint32_t gender, uint32_t number,
-                                              uint32_t grammatical_case,
+                                              uint32_t grammatical_case, uint32_t apostrophe,
                                               const void *text, size_t text_length);
 
 static inline yokepear_measure yokepear_uk_measure_cardinal_in(yokepear_uk settings,
@@ -217,7 +230,7 @@ static inline yokepear_measure yokepear_uk_measure_cardinal_in(yokepear_uk setti
  * says in the same settings are read, every other one is refused. Refuses by 1, 6, 7.
  */
 yokepear_answer yokepear_uk_from_cardinal(uint32_t gender, uint32_t number,
-                                          uint32_t grammatical_case,
+                                          uint32_t grammatical_case, uint32_t apostrophe,
                                           const void *phrase, size_t phrase_length,
                                           void *out, size_t out_length);
 
@@ -229,16 +242,17 @@ static inline yokepear_answer yokepear_uk_from_cardinal_in(yokepear_uk settings,
 
 /* ---- Ukrainian ordinals, digit ordinals and years ------------------------------------------ */
 
-#define YOKEPEAR_UK_ORDINAL_PHRASE 1776
+#define YOKEPEAR_UK_ORDINAL_PHRASE 1841
 #define YOKEPEAR_UK_ORDINAL_NUM_PHRASE 44
-#define YOKEPEAR_UK_YEAR_PHRASE 495
+#define YOKEPEAR_UK_YEAR_PHRASE 513
 
 /*
  * Speaks the ordinal of a number of at most 66 digits, which is not negative: 21000, masculine,
  * singular, nominative is `двадцятиоднотисячний`. In the plural `gender` has no effect.
  * Refuses by 1, 3, 4, 5, 7.
  */
-yokepear_answer yokepear_uk_to_ordinal(uint32_t gender, uint32_t number, uint32_t grammatical_case,
+yokepear_answer yokepear_uk_to_ordinal(uint32_t gender, uint32_t number,
+                                       uint32_t grammatical_case, uint32_t apostrophe,
                                        const void *text, size_t text_length,
                                        void *out, size_t out_length);
 
@@ -250,7 +264,7 @@ static inline yokepear_answer yokepear_uk_to_ordinal_in(yokepear_uk settings,
 
 /* Measures the phrase that yokepear_uk_to_ordinal says. Refuses by 1, 3, 4, 5. */
 yokepear_measure yokepear_uk_measure_ordinal(uint32_t gender, uint32_t number,
-                                             uint32_t grammatical_case,
+                                             uint32_t grammatical_case, uint32_t apostrophe,
                                              const void *text, size_t text_length);
 
 static inline yokepear_measure yokepear_uk_measure_ordinal_in(yokepear_uk settings,
@@ -261,11 +275,11 @@ static inline yokepear_measure yokepear_uk_measure_ordinal_in(yokepear_uk settin
 
 /*
  * Writes a digit ordinal: 42, masculine, singular, genitive is `42-го`. The number is not negative
- * and at most 340282366920938463463374607431768211455. In the plural `gender` has no effect.
- * Refuses by 1, 3, 4, 5, 7.
+ * and at most 340282366920938463463374607431768211455. In the plural `gender` has no effect, and
+ * `apostrophe` nowhere. Refuses by 1, 3, 4, 5, 7.
  */
 yokepear_answer yokepear_uk_to_ordinal_num(uint32_t gender, uint32_t number,
-                                           uint32_t grammatical_case,
+                                           uint32_t grammatical_case, uint32_t apostrophe,
                                            const void *text, size_t text_length,
                                            void *out, size_t out_length);
 
@@ -277,7 +291,7 @@ static inline yokepear_answer yokepear_uk_to_ordinal_num_in(yokepear_uk settings
 
 /* Measures the phrase that yokepear_uk_to_ordinal_num says. Refuses by 1, 3, 4, 5. */
 yokepear_measure yokepear_uk_measure_ordinal_num(uint32_t gender, uint32_t number,
-                                                 uint32_t grammatical_case,
+                                                 uint32_t grammatical_case, uint32_t apostrophe,
                                                  const void *text, size_t text_length);
 
 static inline yokepear_measure yokepear_uk_measure_ordinal_num_in(yokepear_uk settings,
@@ -290,7 +304,8 @@ static inline yokepear_measure yokepear_uk_measure_ordinal_num_in(yokepear_uk se
  * Speaks a year, any int64_t: -43, singular, genitive is `сорок третього року до н.е.`; year 0 and
  * all years below it end in `до н.е.`. `gender` has no effect on years. Refuses by 1 and 7.
  */
-yokepear_answer yokepear_uk_to_year(uint32_t gender, uint32_t number, uint32_t grammatical_case,
+yokepear_answer yokepear_uk_to_year(uint32_t gender, uint32_t number,
+                                    uint32_t grammatical_case, uint32_t apostrophe,
                                     int64_t year, void *out, size_t out_length);
 
 static inline yokepear_answer yokepear_uk_to_year_in(yokepear_uk settings, int64_t year,
@@ -300,7 +315,8 @@ static inline yokepear_answer yokepear_uk_to_year_in(yokepear_uk settings, int64
 
 /* Measures the phrase that yokepear_uk_to_year says. Refuses by 1. */
 yokepear_measure yokepear_uk_measure_year(uint32_t gender, uint32_t number,
-                                          uint32_t grammatical_case, int64_t year);
+                                          uint32_t grammatical_case, uint32_t apostrophe,
+                                          int64_t year);
 
 static inline yokepear_measure yokepear_uk_measure_year_in(yokepear_uk settings, int64_t year) {
   return yokepear_uk_measure_year(YOKEPEAR_UK_(settings), year);
@@ -308,7 +324,7 @@ static inline yokepear_measure yokepear_uk_measure_year_in(yokepear_uk settings,
 
 /* ---- Ukrainian money ----------------------------------------------------------------------- */
 
-#define YOKEPEAR_UK_CURRENCY_PHRASE 709
+#define YOKEPEAR_UK_CURRENCY_PHRASE 722
 #define YOKEPEAR_UK_CURRENCY_TEXT 23
 
 /*
@@ -321,7 +337,8 @@ static inline yokepear_measure yokepear_uk_measure_year_in(yokepear_uk settings,
  * in capitals; DINAR, DOLLAR, PESO and RIYAL are for any currency of that name.
  * Refuses by 1, 2, 3, 4, 5, 7.
  */
-yokepear_answer yokepear_uk_to_currency(uint32_t gender, uint32_t number, uint32_t grammatical_case,
+yokepear_answer yokepear_uk_to_currency(uint32_t gender, uint32_t number,
+                                        uint32_t grammatical_case, uint32_t apostrophe,
                                         const void *code, size_t code_length,
                                         const void *text, size_t text_length,
                                         void *out, size_t out_length);
@@ -336,7 +353,7 @@ static inline yokepear_answer yokepear_uk_to_currency_in(yokepear_uk settings,
 
 /* Measures the phrase that yokepear_uk_to_currency says. Refuses by 1, 2, 3, 4, 5. */
 yokepear_measure yokepear_uk_measure_currency(uint32_t gender, uint32_t number,
-                                              uint32_t grammatical_case,
+                                              uint32_t grammatical_case, uint32_t apostrophe,
                                               const void *code, size_t code_length,
                                               const void *text, size_t text_length);
 
@@ -353,7 +370,7 @@ static inline yokepear_measure yokepear_uk_measure_currency_in(yokepear_uk setti
  * amount above the limit. Refuses by 1, 2, 6, 7.
  */
 yokepear_answer yokepear_uk_from_currency(uint32_t gender, uint32_t number,
-                                          uint32_t grammatical_case,
+                                          uint32_t grammatical_case, uint32_t apostrophe,
                                           const void *code, size_t code_length,
                                           const void *phrase, size_t phrase_length,
                                           void *out, size_t out_length);

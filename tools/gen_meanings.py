@@ -2,11 +2,13 @@
 # gen_meanings.py [--check] [LANGUAGE...]: writes the crates uk_meanings and fr_meanings (code, specs and proofs) from the lists
 # tools/uk_meanings.txt and tools/fr_meanings.txt, in the layout of `rt fmt`. With --check it writes nothing and fails at a difference.
 # A line of a list is a meaning, a number, and the words that mean it: `4 quatre quatrième`. A word that means 0 has no arm; it is listed so
-# that no other word gets its key. Run by hand after a change of a list; what it writes is committed.
+# that no other word gets its key. A word with an apostrophe stands for itself and for the same word with each other sign. Run by hand after a change
+# of a list; what it writes is committed.
 import argparse
 import os
-import textwrap
 
+import apostrophes
+import arms
 import generated
 
 HERE = os.path.dirname(os.path.abspath(__file__))
@@ -28,7 +30,7 @@ def meanings_of(language):
     meanings = {}
     for line in open(os.path.join(HERE, '%s_meanings.txt' % language), encoding='utf8'):
         meaning, *words = line.split()
-        for word in words:
+        for word in apostrophes.each_sign(words):
             known = meanings.setdefault(key(word), (int(meaning), word))
             assert known[0] == int(meaning), '%s and %s have one key' % (word, known[1])
     return {k: known for k, known in meanings.items() if known[0]}
@@ -45,11 +47,6 @@ def shifts_of(keys, slots):
         shifts[part] = fit[0]
         taken |= places[fit[0]]
     return shifts
-
-
-# lines of one list, with no break inside a pair
-def filled(text):
-    return textwrap.fill(text.replace(', ', ',_'), 118, initial_indent='    ', subsequent_indent='    ').replace('_', ' ')
 
 
 class Crate:
@@ -73,8 +70,7 @@ class Crate:
             ('shifts', 'by how much the keys of each of %d parts are moved, so that no two have one place' % PARTS, self.shifts),
             ('table', 'at each place that is taken, %d times what its key means, and the key' % UNIT, [(p, m * UNIT + k) for p, m, w, k in self.table]),
         ):
-            row = ' ∷ '.join(['(%d, %d)' % entry for entry in reversed(entries)] + ['[]'])
-            lists += '-- %s\nunfoldable pub %s : Entries\n%s =\n%s\n\n' % (said, name, name, filled(row))
+            lists += '-- %s\nunfoldable pub %s : Entries\n%s =\n%s\n\n' % (said, name, name, arms.filled(arms.listing(entries)))
         self.write('specs/Lib.antt', 'pub mod Meanings\n')
         self.write('specs/Meanings.antt', '''-- What the words of the %s numbers mean, by their keys: 1 to 999 a number,
 -- 1000 and more a scale word of that order%s, 2001 minus, 0 nothing.
@@ -94,27 +90,15 @@ meaningOf key = meaningAt key (lookup (placeOf key) table)
 ''' % (LANGUAGES[self.language], ZEROS[self.language], lists, self.slots, self.slots, PARTS, self.slots))
 
     # a match with an arm for each entry of a list
-    def match(self, name, comment, head, by, arms):
-        self.write('src/%s.rt' % name, '''// %s
-ghost use mathlib.Core.Path.{_≡_};
-ghost use Rattle.meanings.specs.Lookup.{lookup};
-ghost use Rattle.%s.specs.Meanings.{%s as %sOf};
-
-pub fn %s
-    ensures { λ r. ⌜ r ≡ lookup %s %sOf ⌝ }
-{
-    match %s {
-%s        _ => 0,
-    }
-}
-''' % (comment, self.name, name, name, head, by, name, by, ''.join('        %s\n' % arm for arm in arms)))
+    def match(self, name, comment, head, arms_of):
+        self.write('src/%s.rt' % name, arms.source(self.name, name, 'Meanings', name, comment, head, arms_of))
 
     def source(self):
         comment = "By how much the keys of a part are moved. Of each match here the compiler makes a load."
-        self.match('shifts', comment, 'shift(part: u32) -> u16', 'part', ['%d => %d,' % entry for entry in self.shifts])
+        self.match('shifts', comment, 'shift(part: u32) -> u16', ['%d => %d,' % entry for entry in self.shifts])
         comment = 'What stands at a place: %d times what its key means, and the key; or 0.' % UNIT
-        arms = ['%d => 0x%04x_%04x, // %s: %d' % (p, (m * UNIT + k) >> 16, (m * UNIT + k) & 65535, w, m) for p, m, w, k in self.table]
-        self.match('table', comment, 'entry_at(place: u32) -> u32', 'place', arms)
+        entries = ['%d => 0x%04x_%04x, // %s: %d' % (p, (m * UNIT + k) >> 16, (m * UNIT + k) & 65535, w, m) for p, m, w, k in self.table]
+        self.match('table', comment, 'entry_at(place: u32) -> u32', entries)
         self.write('src/lib.rt', '''// What the words of the %s numbers mean, by their keys.
 mod shifts;
 mod table;
@@ -142,33 +126,14 @@ pub fn meaning(key: u32) -> u16
 }
 ''' % (LANGUAGES[self.language], self.name, self.slots, PARTS, UNIT))
 
-    def proof(self, path, uses, body, comment, laws=''):
-        dotted = path.replace('/', '.')
-        self.write('proofs/%s/Proof.antt' % path, '''-- `%s::%s` meets its contract: %s.
--- Assumes nothing.
-%suse Rattle.%s.proofs.%s.Statement.{statement}
-use Rattle.%s.proofs.%s.Tie as tie
-
-%spub %s-spec : {M : Type 1} → statement M
-%s''' % (self.name, path.replace('/', '::'), comment, uses, self.name, dotted, self.name, dotted, laws, path.split('/')[-1].replace('_', '-'), body))
-
-    # one answer for each arm: the law of an arm, at the arm's key
-    def arms(self, path, name, count):
-        function = path.split('/')[-1].replace('_', '-')
-        answers = ['(λ c. found %s (c .match .keys%d) refl)' % (name, q) for q in range(1, count + 1)]
-        answers.append('(λ c. missed _ %s (c .match .rest))' % name)
-        uses = '''use mathlib.Core.Path.{refl}
-use Rattle.meanings.specs.Lookup.{lookup}
-use Rattle.meanings.proofs.Arms.{found, missed}
-use Rattle.%s.specs.Meanings.{%s}
-''' % (self.name, name)
-        body = 'unfolding lookup %s\n%s-spec =\n    tie.close\n    (tie.spec\n    %s)\n' % (name, function, '\n    '.join(answers))
-        self.proof(path, uses, body, 'in the arm of a number stands its entry')
+    # a table's
+    def table_proof(self, path, name, count):
+        self.write('proofs/%s/Proof.antt' % path, arms.proof(self.name, path, 'Meanings', name, count))
 
     def proofs(self):
         self.write('proofs/Lib.antt', '')
-        self.arms('shifts/shift', 'shifts', len(self.shifts))
-        self.arms('table/entry_at', 'table', len(self.table))
+        self.table_proof('shifts/shift', 'shifts', len(self.shifts))
+        self.table_proof('table/entry_at', 'table', len(self.table))
         uses = '''use borrow.Author.Needs.{needs}
 use Prim.Native.Nat.{ℕ, _+_, _%%_}
 use mathlib.Core.Path.{_≡_, ap, _∙_}
@@ -193,7 +158,7 @@ meaning-spec =
     (λ c. here (at (c .before)) (c .if1 .taken))
     (λ c. elsewhere (at (c .before)) (c .if1 .left)))
 '''
-        self.proof('meaning', uses, body, 'a key is found at its place, or has no meaning', laws)
+        self.write('proofs/meaning/Proof.antt', arms.headed(self.name, 'meaning', 'a key is found at its place, or has no meaning', uses, laws, body))
 
     def generate(self):
         self.specs()

@@ -2,10 +2,13 @@
 """gen_words.py [--check]: writes the code's pools of texts and its tables of places, from the tables of words in the specs.
 
 A pool is one byte string in which every text of a language stands somewhere, texts that overlap sharing their bytes; a text's place is half
-of where it starts, times 40, and its length. What is written is committed; --check compares instead, and fails where a file differs."""
+of where it starts, times 40, and its length. A table whose words have an apostrophe has one more index, the first: the number of the sign that is
+said for it. What is written is committed; --check compares instead, and fails where a file differs."""
 import re
 import sys
 
+import apostrophes
+import arms
 import generated
 
 LONGER = 40  # than any text: words/src/lib.rt has the same number
@@ -75,18 +78,25 @@ def pool_of(texts):
     return b''.join(t if len(t) % 2 == 0 else t + PAD for t in left)
 
 
+def by_apostrophe(tables):
+    """The tables, those whose words have an apostrophe by the sign's number first."""
+    return {name: [apostrophes.with_sign(table, sign) for sign in apostrophes.SIGNS] if apostrophes.LETTER in ''.join(flat(table)) else table
+            for name, table in tables.items()}
+
+
 def flat(item):
     return [item] if isinstance(item, str) else [text for part in item for text in flat(part)]
 
 
 class Pool:
-    """A pool of texts, and of plurals: texts of which a plural with `s` is wanted too, at the same place. Texts with spaces stand last, behind
-    `unspaced` bytes that have none."""
+    """A pool of texts, and of plurals: texts of which a plural with `s` is wanted too, at the same place. The common ones start in its first `front`
+    bytes and end no more than LONGER behind them. Texts with spaces stand last, behind `unspaced` bytes that have none."""
     def __init__(self, texts, common, plurals=()):
         self.plurals = set(plurals)
         wanted = [text + 's' if text in self.plurals else text for text in texts]
         common = [text + 's' if text in self.plurals else text for text in common]
         self.bytes = pool_of(common)
+        self.front = len(self.bytes)
         self.bytes += pool_of([text for text in wanted if ' ' not in text and start_in(self.bytes, text.encode()) < 0])
         self.unspaced = len(self.bytes)
         self.bytes += pool_of([text for text in wanted if ' ' in text])
@@ -181,17 +191,41 @@ def byte_constant(name, size, data):
     return line + (' ' if len(line + text) < 100 else '\n    ') + text + '\n'
 
 
-def pool_source(head, pool, measured):
+def front_source(pool):
+    """The front of a pool as a constant of its own."""
+    data = pool.bytes[:pool.front + LONGER]
+    return '''
+// The front of the pool, with the words of everyday figures, and the first place that is not for it: a text at a place below stands in it whole.
+pub const FRONT: usize = %d;
+
+pub const FRONT_PLACES: u32 = %d;
+
+%s''' % (len(data), pool.front // 2 * LONGER, byte_constant('FRONT_POOL', 'FRONT', data))
+
+
+def pool_source(head, pool, measured, fronted):
     sizes = 'pub const SIZE: usize = %d;\n' % len(pool.bytes)
     if measured:
         unspaced = 'SIZE' if pool.unspaced == len(pool.bytes) else str(pool.unspaced)
         sizes += '\n// How many of its bytes, from the first on, have no space; how many spaces stand before each of the others, and before its end.\n'
         sizes += 'pub const UNSPACED: usize = %s;\n\n' % unspaced
         sizes += byte_constant('COUNTS', str(len(pool.counts())), pool.counts())
-    return '%s\n%s\n%s' % (head, sizes, byte_constant('POOL', 'SIZE', pool.bytes))
+    front = front_source(pool) if fronted else ''
+    return '%s\n%s\n%s%s' % (head, sizes, byte_constant('POOL', 'SIZE', pool.bytes), front)
 
 
-def pool_spec(head, name, pool):
+def front_spec(pool):
+    return '''
+-- how many bytes its front has, and the first place that is not for it
+abbrev pub frontSize : ℕ
+frontSize = %d
+
+abbrev pub frontPlaces : ℕ
+frontPlaces = %d
+''' % (pool.front + LONGER, pool.front // 2 * LONGER)
+
+
+def pool_spec(head, name, pool, fronted):
     text = pool.bytes.decode()
     rows = [text[i:i + 100] for i in range(0, len(text), 100)]
     body = ' ++ ('.join('utf8 "%s"' % row for row in rows) + ')' * (len(rows) - 1)
@@ -206,11 +240,13 @@ use Rattle.base.specs.Utf8.{utf8}
 unfoldable pub %s : List ℕ
 %s =
     %s
-''' % (head, ', _++_' if len(rows) > 1 else '', name, name, body)
+%s''' % (head, ', _++_' if len(rows) > 1 else '', name, name, body, front_spec(pool) if fronted else '')
 
 
-UK = tables('uk/specs/UkTables.antt')
-ORDINAL = tables('uk_ordinal/specs/OrdinalTables.antt')
+UK = by_apostrophe(tables('uk/specs/UkTables.antt'))
+# these are looked up for every group, and would be made on the stack each time
+DIGITS = {name: UK[name] for name in ('units', 'tens', 'hundreds')}
+ORDINAL = by_apostrophe(tables('uk_ordinal/specs/OrdinalTables.antt'))
 SHORT = {name: table for name, table in ORDINAL.items() if name.endswith('Short')}
 NOUNS = tables('uk_money/specs/NounTables.antt')
 FR = tables('fr/specs/FrTables.antt')
@@ -243,8 +279,9 @@ def name_row(text):
 
 UK_TEXTS = (flat(list(UK.values())) + flat([table for name, table in ORDINAL.items() if name not in SHORT]) + flat(list(NOUNS.values()))
             + list(UK_OTHERS.values()) + list(ORDINAL_OTHERS.values()) + re.findall(r'"([^"]*)"', ' '.join(map(' '.join, CURRENCIES))))
-# the words of everyday figures come first: what is written of a pool last is read back slowest, and short phrases would wait for it
-UK_POOL = Pool(UK_TEXTS, flat([table for name, table in UK.items() if name != 'megaBases']))
+# the words of everyday figures come first, since for them the pool's front alone is made: all but scale nouns above 10 ^ 9, and but the other signs
+UK_COMMON = [text for text in UK_TEXTS if text not in UK['megaBases'][3:] and not any(sign in text for sign in apostrophes.SIGNS[1:])]
+UK_POOL = Pool(UK_TEXTS, UK_COMMON)
 SHORT_POOL = Pool(flat(list(SHORT.values())), [])
 FR_WORDS = fr_tables()
 FR_COMMON = flat([FR_WORDS[k] for k in ('units', 'teens', 'tens')]) + ['cent', 'mille', 'quatre-vingt', 'et', 'une', 'ième']
@@ -261,10 +298,41 @@ def money_tables():
     return [('main', [name_row(a) for a, _ in CURRENCIES]), ('fraction', [name_row(b) for _, b in CURRENCIES]), ('endings', forms)]
 
 
+def digit_entries(table):
+    """A table by apostrophe, digit and case as one row of places."""
+    return list(enumerate(UK_POOL.place(text) for text in flat(table)))
+
+
+def digit_files():
+    """The crate of the places of digits' words."""
+    yield 'specs/Lib.antt', 'pub mod Places\n'
+    lists = '''-- The places of the words of digits, by apostrophe, digit and case, in this order: it ties the code to the tables. Made by tools/gen_words.py.
+-- Assumes nothing.
+use mathlib.Core.List.{[], _∷_}
+use Rattle.meanings.specs.Lookup.{Entries}
+'''
+    modules = ''
+    for name, table in DIGITS.items():
+        entries, places = digit_entries(table), name[:-1] + 'Places'
+        what = '%s, %d to 9' % (name, 10 - len(table[0]))
+        lists += '\n-- %s\nunfoldable pub %s : Entries\n%s =\n%s\n' % (what, places, places, arms.filled(arms.listing(entries)))
+        modules += 'pub mod %s; // %s\n' % (name, what)
+        comment = 'The place of a word: %s. Made by tools/gen_words.py.' % what
+        source = arms.source('uk_digits', name, 'Places', places, comment, 'place(index: usize) -> u16', ['%d => %d,' % entry for entry in entries])
+        rows = '\n// How many digits have a word here.\npub const ROWS: usize = %d;\n' % len(table[0])
+        yield 'src/%s.rt' % name, source.replace('\npub fn', rows + '\npub fn')
+        yield 'proofs/%s/place/Proof.antt' % name, arms.proof('uk_digits', name + '/place', 'Places', places, len(entries))
+    yield 'specs/Places.antt', lists
+    yield 'src/lib.rt', '''// The places of the words of digits, by apostrophe, digit and case: of each match the compiler makes a load, where a constant table would be built on
+// the stack for each word. Made by tools/gen_words.py.
+''' + modules
+    yield 'proofs/Lib.antt', ''
+
+
 def outputs():
     long_ordinal = {name: table for name, table in ORDINAL.items() if name not in SHORT}
     kinds = [
-        ('uk', 'Ukrainian cardinals', placed(UK_POOL, UK, UK_OTHERS)),
+        ('uk', 'Ukrainian cardinals', placed(UK_POOL, {name: table for name, table in UK.items() if name not in DIGITS}, UK_OTHERS)),
         ('uk_ordinal', 'Ukrainian ordinals and years', placed(UK_POOL, long_ordinal, ORDINAL_OTHERS) + placed(SHORT_POOL, SHORT)),
         ('uk_money', 'the names of units of money', money_tables()),
         ('fr', 'French', placed(FR_POOL, FR_WORDS, FR_OTHERS)),
@@ -272,11 +340,13 @@ def outputs():
     for crate, what, found in kinds:
         yield '%s/src/places.rt' % crate, constants('// The places of the texts of %s, table by table. Made by tools/gen_words.py.\n' % what, found)
         yield '%s/proofs/Listed.antt' % crate, lists("-- The code's tables of places as lists. Made by tools/gen_words.py.\n", found)
+    for path, text in digit_files():
+        yield 'uk_digits/' + path, text
     for crate, name, what, pool, measured in [('uk', 'ukPool', 'The Ukrainian texts', UK_POOL, True),
                                               ('uk_ordinal', 'shortPool', 'The endings of digit ordinals', SHORT_POOL, False),
                                               ('fr', 'frPool', 'The French texts', FR_POOL, True)]:
-        yield '%s/src/pool.rt' % crate, pool_source('// %s, those that overlap sharing their bytes; `_` brings the next to an even byte. Made by tools/gen_words.py.' % what, pool, measured)
-        yield '%s/specs/Pool.antt' % crate, pool_spec('-- %s, those that overlap sharing their bytes: it ties the code to the tables. Made by tools/gen_words.py.' % what, name, pool)
+        yield '%s/src/pool.rt' % crate, pool_source('// %s, those that overlap sharing their bytes; `_` brings the next to an even byte. Made by tools/gen_words.py.' % what, pool, measured, pool is UK_POOL)
+        yield '%s/specs/Pool.antt' % crate, pool_spec('-- %s, those that overlap sharing their bytes: it ties the code to the tables. Made by tools/gen_words.py.' % what, name, pool, pool is UK_POOL)
 
 
 def main():

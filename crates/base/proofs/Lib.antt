@@ -7,3 +7,4 @@ pub mod Closing
 pub mod Same
 pub mod Numbers
 pub mod Words
+pub mod Replaced

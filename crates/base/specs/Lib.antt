@@ -11,4 +11,5 @@ pub mod Answer
 pub mod Measure
 pub mod Reading
 pub mod Room
+pub mod Replaced
 pub mod Claim

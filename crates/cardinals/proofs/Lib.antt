@@ -3,4 +3,5 @@ pub mod Arrays
 pub mod Guessed
 pub mod Inverse
 pub mod Words
+pub mod Replaced
 pub mod Unspaced

@@ -16,7 +16,7 @@ use Rattle.base.specs.Buffer.{over}
 use Rattle.base.specs.Answer.{firstOf, Spelling, refused, bytes, fitted, unless, replied, Answers}
 use Rattle.base.specs.declared.Answer.{Answer}
 use Rattle.base.specs.Room.{phraseRoom, lineRoom}
-use Rattle.settings.specs.Settings.{ukrainianSettings, frenchSettings, ukrainianRanges, frenchRanges, within}
+use Rattle.settings.specs.Settings.{frenchSettings, ukrainianRanges, frenchRanges, within}
 use Rattle.settings.specs.Refused.{outOfRange}
 use Rattle.settings.specs.declared.Settings.{Settings}
 use Rattle.uk_money.specs.Currencies.{Currency}
@@ -30,7 +30,7 @@ use Rattle.phrases_forms.specs.Cuts.{nextWord, afterSpace}
 use Rattle.phrases_forms.specs.declared.Kind.{Kind}
 use Rattle.phrases_forms.specs.declared.Language.{Language}
 use Rattle.phrases_forms.specs.declared.Language.the-variants.{Ukrainian, French}
-use Rattle.phrases_answers.specs.Answers.{lineOf, badLine, answerTo, yearText, answerLine}
+use Rattle.phrases_answers.specs.Answers.{lineOf, badLine, answerTo, yearText, answerLine, lineSettings}
 use Rattle.phrases_answers.specs.Left.{ukrainianLeft, frenchLeft, afterThree, settledLeft}
 use Rattle.phrases_answers.specs.Wrote.{Wrote}
 use Rattle.phrases_answers.proofs.Forms.{form-is}
@@ -175,7 +175,7 @@ module _ (S : Settings) (t : List ℕ) (i : within (ukrainianRanges S) ≡ true)
 -- from the settings' words to the form
 module _ (k : Kind) (s t : List ℕ) (x y z r : ℕ) (xs ys : List ℕ) where
   pub settle-uk : x ≡ genderOf (nextWord s) → y ≡ grammaticalNumberOf (nextWord (afterSpace s)) → z ≡ caseOf (nextWord (afterSpace (afterSpace s))) → t ≡ afterThree s
-      → within (ukrainianRanges (ukrainianSettings x y z)) ≡ true → Wrote (answerTo (ukrainianLeft k (ukrainianSettings x y z) t)) r xs ys → Wrote (answerTo (settledLeft k Ukrainian s)) r xs ys
+      → within (ukrainianRanges (lineSettings x y z)) ≡ true → Wrote (answerTo (ukrainianLeft k (lineSettings x y z) t)) r xs ys → Wrote (answerTo (settledLeft k Ukrainian s)) r xs ys
   unfolding settledLeft
   settle-uk ex ey ez et i w = rw (← ex, ← ey, ← ez, ← et, i) w
 
@@ -186,7 +186,7 @@ module _ (k : Kind) (s t : List ℕ) (x y z r : ℕ) (xs ys : List ℕ) where
 
 module _ (k : Kind) (s : List ℕ) (x y z r : ℕ) (xs ys : List ℕ) where
   pub unsettled-uk : x ≡ genderOf (nextWord s) → y ≡ grammaticalNumberOf (nextWord (afterSpace s)) → z ≡ caseOf (nextWord (afterSpace (afterSpace s)))
-      → within (ukrainianRanges (ukrainianSettings x y z)) ≡ false → Wrote badLine r xs ys → Wrote (answerTo (settledLeft k Ukrainian s)) r xs ys
+      → within (ukrainianRanges (lineSettings x y z)) ≡ false → Wrote badLine r xs ys → Wrote (answerTo (settledLeft k Ukrainian s)) r xs ys
   unfolding settledLeft
   unsettled-uk ex ey ez i w = rw (← ex, ← ey, ← ez, i) w
 

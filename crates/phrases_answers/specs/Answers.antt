@@ -10,7 +10,7 @@ use Rattle.base.specs.Answer.{Spelling, firstOf}
 use Rattle.base.specs.Join.{Word}
 use Rattle.base.specs.Signs.{lineFeed, digitZero}
 use Rattle.base.specs.Utf8.{utf8}
-use Rattle.settings.specs.Settings.{ukrainianSettings, frenchSettings, ukrainianRanges, frenchRanges, within}
+use Rattle.settings.specs.Settings.{letterApostrophe, ukrainianSettings, frenchSettings, ukrainianRanges, frenchRanges, within}
 use Rattle.settings.specs.Refused.{outOfRange}
 use Rattle.settings.specs.declared.Settings.{Settings}
 use Rattle.figures.specs.Refusals.{yearRefusals}
@@ -64,9 +64,13 @@ frenchForm Year S ws = none
 frenchForm Money S ws = none
 frenchForm Other S ws = none
 
+-- the settings of a Ukrainian line, which names three of them: of apostrophes, "The program's lines mean 0" (02, W2)
+abbrev pub lineSettings : ℕ → ℕ → ℕ → Settings
+lineSettings gender number case = ukrainianSettings gender number case letterApostrophe
+
 -- the settings that three words name, in each language; a word that is no name is out of range
 abbrev pub ukrainianNamed : Word → Word → Word → Settings
-ukrainianNamed a b c = ukrainianSettings (genderOf a) (grammaticalNumberOf b) (caseOf c)
+ukrainianNamed a b c = lineSettings (genderOf a) (grammaticalNumberOf b) (caseOf c)
 
 abbrev pub frenchNamed : Word → Word → Word → Settings
 frenchNamed a b c = frenchSettings (feminineOf a) (reformedOf b) (regionOf c)

@@ -1,21 +1,22 @@
-// Ukrainian forms, kind by kind.
+// Ukrainian forms, kind by kind. A line names no apostrophe: its words have U+02BC.
 use super::write::bad;
 use super::write::finish;
 use super::write::refuse;
 use phrases_forms::Kind;
 use phrases_forms::runs::is_closed;
 use phrases_forms::runs::is_run;
+use settings::LETTER_APOSTROPHE;
 ghost use mathlib.Core.Path.{_≡_};
 ghost use mathlib.Core.Bool.{true};
 ghost use Prim.Native.Nat.{_≤_};
 ghost use lib.ListN.{length};
-ghost use Rattle.settings.specs.Settings.{ukrainianSettings, ukrainianRanges, within};
+ghost use Rattle.settings.specs.Settings.{ukrainianRanges, within};
 ghost use Rattle.phrases_forms.specs.declared.Kind.the-variants.{Card, Ord, Num, Year, Money};
 ghost use Rattle.phrases_forms.specs.declared.Language.the-variants.{Ukrainian as UkrainianLanguage};
 ghost use mathlib.Core.Option.{some};
 ghost use Rattle.base.specs.Room.{lineRoom};
 ghost use Rattle.uk_money_calls.specs.MoneyCalls.{ukToCurrency};
-ghost use Rattle.phrases_answers.specs.Answers.{answerTo, yearText};
+ghost use Rattle.phrases_answers.specs.Answers.{answerTo, yearText, lineSettings};
 ghost use Rattle.phrases_forms.specs.Cuts.{codeLeft};
 ghost use Rattle.phrases_answers.specs.Left.{ukrainianLeft, settledLeft};
 ghost use Rattle.phrases_answers.specs.Wrote.{Wrote};
@@ -23,11 +24,11 @@ ghost use Rattle.phrases_answers.specs.Wrote.{Wrote};
 // A cardinal's form.
 fn card(gender: u32, number: u32, case: u32, s: &[u8], out: &mut [u8]) -> usize
     requires { ⌜ lineRoom ≤ length (now out) ⌝ }
-    ensures { λ r. ⌜ Wrote (answerTo (ukrainianLeft Card (ukrainianSettings gender number case) (now (s .entry)))) r (now (out .entry)) (now (out .exit)) ⌝ }
+    ensures { λ r. ⌜ Wrote (answerTo (ukrainianLeft Card (lineSettings gender number case) (now (s .entry)))) r (now (out .entry)) (now (out .exit)) ⌝ }
 {
     if is_closed(s) {
         let e = s.len() - 1;
-        let a = uk_calls::to_cardinal(gender, number, case, &s[..e], out);
+        let a = uk_calls::to_cardinal(gender, number, case, LETTER_APOSTROPHE, &s[..e], out);
         return finish(a, out);
     }
     bad(out)
@@ -36,11 +37,11 @@ fn card(gender: u32, number: u32, case: u32, s: &[u8], out: &mut [u8]) -> usize
 // An ordinal's.
 fn ord(gender: u32, number: u32, case: u32, s: &[u8], out: &mut [u8]) -> usize
     requires { ⌜ lineRoom ≤ length (now out) ⌝ }
-    ensures { λ r. ⌜ Wrote (answerTo (ukrainianLeft Ord (ukrainianSettings gender number case) (now (s .entry)))) r (now (out .entry)) (now (out .exit)) ⌝ }
+    ensures { λ r. ⌜ Wrote (answerTo (ukrainianLeft Ord (lineSettings gender number case) (now (s .entry)))) r (now (out .entry)) (now (out .exit)) ⌝ }
 {
     if is_closed(s) {
         let e = s.len() - 1;
-        let a = uk_ordinal_calls::to_ordinal(gender, number, case, &s[..e], out);
+        let a = uk_ordinal_calls::to_ordinal(gender, number, case, LETTER_APOSTROPHE, &s[..e], out);
         return finish(a, out);
     }
     bad(out)
@@ -49,11 +50,18 @@ fn ord(gender: u32, number: u32, case: u32, s: &[u8], out: &mut [u8]) -> usize
 // A digit ordinal's.
 fn num(gender: u32, number: u32, case: u32, s: &[u8], out: &mut [u8]) -> usize
     requires { ⌜ lineRoom ≤ length (now out) ⌝ }
-    ensures { λ r. ⌜ Wrote (answerTo (ukrainianLeft Num (ukrainianSettings gender number case) (now (s .entry)))) r (now (out .entry)) (now (out .exit)) ⌝ }
+    ensures { λ r. ⌜ Wrote (answerTo (ukrainianLeft Num (lineSettings gender number case) (now (s .entry)))) r (now (out .entry)) (now (out .exit)) ⌝ }
 {
     if is_closed(s) {
         let e = s.len() - 1;
-        let a = uk_ordinal_calls::to_ordinal_num(gender, number, case, &s[..e], out);
+        let a = uk_ordinal_calls::to_ordinal_num(
+            gender,
+            number,
+            case,
+            LETTER_APOSTROPHE,
+            &s[..e],
+            out,
+        );
         return finish(a, out);
     }
     bad(out)
@@ -61,13 +69,13 @@ fn num(gender: u32, number: u32, case: u32, s: &[u8], out: &mut [u8]) -> usize
 
 // A year's text, as a year.
 fn say_year(gender: u32, number: u32, case: u32, text: &[u8], out: &mut [u8]) -> usize
-    requires { ⌜ (within (ukrainianRanges (ukrainianSettings gender number case)) ≡ true) × (lineRoom ≤ length (now out)) ⌝ }
-    ensures { λ r. ⌜ Wrote (answerTo (some (yearText (ukrainianSettings gender number case) (now (text .entry))))) r (now (out .entry)) (now (out .exit)) ⌝ }
+    requires { ⌜ (within (ukrainianRanges (lineSettings gender number case)) ≡ true) × (lineRoom ≤ length (now out)) ⌝ }
+    ensures { λ r. ⌜ Wrote (answerTo (some (yearText (lineSettings gender number case) (now (text .entry))))) r (now (out .entry)) (now (out .exit)) ⌝ }
 {
     let n = figures::refusals::number_of(figures::refusals::judge_year(text));
     if n == 0 {
         let y = figures::year::year_of(text);
-        let a = uk_ordinal_calls::to_year(gender, number, case, y, out);
+        let a = uk_ordinal_calls::to_year(gender, number, case, LETTER_APOSTROPHE, y, out);
         return finish(a, out);
     }
     refuse(n, out)
@@ -75,8 +83,8 @@ fn say_year(gender: u32, number: u32, case: u32, text: &[u8], out: &mut [u8]) ->
 
 // A year's.
 fn year(gender: u32, number: u32, case: u32, s: &[u8], out: &mut [u8]) -> usize
-    requires { ⌜ (within (ukrainianRanges (ukrainianSettings gender number case)) ≡ true) × (lineRoom ≤ length (now out)) ⌝ }
-    ensures { λ r. ⌜ Wrote (answerTo (ukrainianLeft Year (ukrainianSettings gender number case) (now (s .entry)))) r (now (out .entry)) (now (out .exit)) ⌝ }
+    requires { ⌜ (within (ukrainianRanges (lineSettings gender number case)) ≡ true) × (lineRoom ≤ length (now out)) ⌝ }
+    ensures { λ r. ⌜ Wrote (answerTo (ukrainianLeft Year (lineSettings gender number case) (now (s .entry)))) r (now (out .entry)) (now (out .exit)) ⌝ }
 {
     if is_closed(s) {
         let e = s.len() - 1;
@@ -88,12 +96,20 @@ fn year(gender: u32, number: u32, case: u32, s: &[u8], out: &mut [u8]) -> usize
 // An amount's code, and its text with the closing bracket.
 fn amount(gender: u32, number: u32, case: u32, code: &[u8], t: &[u8], out: &mut [u8]) -> usize
     requires { ⌜ lineRoom ≤ length (now out) ⌝ }
-    ensures { λ r. ⌜ Wrote (answerTo (codeLeft (ukToCurrency (ukrainianSettings gender number case)) (now (code .entry)) (now (t .entry)))) r (now (out .entry)) (now (out .exit)) ⌝ }
+    ensures { λ r. ⌜ Wrote (answerTo (codeLeft (ukToCurrency (lineSettings gender number case)) (now (code .entry)) (now (t .entry)))) r (now (out .entry)) (now (out .exit)) ⌝ }
 {
     if is_run(code) {
         if is_closed(t) {
             let e = t.len() - 1;
-            let a = uk_money_calls::to_currency(gender, number, case, code, &t[..e], out);
+            let a = uk_money_calls::to_currency(
+                gender,
+                number,
+                case,
+                LETTER_APOSTROPHE,
+                code,
+                &t[..e],
+                out,
+            );
             return finish(a, out);
         }
         return bad(out);
@@ -104,7 +120,7 @@ fn amount(gender: u32, number: u32, case: u32, code: &[u8], t: &[u8], out: &mut 
 // An amount's, with the code before the text.
 fn money(gender: u32, number: u32, case: u32, s: &[u8], out: &mut [u8]) -> usize
     requires { ⌜ lineRoom ≤ length (now out) ⌝ }
-    ensures { λ r. ⌜ Wrote (answerTo (ukrainianLeft Money (ukrainianSettings gender number case) (now (s .entry)))) r (now (out .entry)) (now (out .exit)) ⌝ }
+    ensures { λ r. ⌜ Wrote (answerTo (ukrainianLeft Money (lineSettings gender number case) (now (s .entry)))) r (now (out .entry)) (now (out .exit)) ⌝ }
 {
     let k = phrases_forms::cut(s);
     let i = k.end;
@@ -114,8 +130,8 @@ fn money(gender: u32, number: u32, case: u32, s: &[u8], out: &mut [u8]) -> usize
 
 // The form of a kind, with settings in their ranges.
 fn form(kind: Kind, gender: u32, number: u32, case: u32, s: &[u8], out: &mut [u8]) -> usize
-    requires { ⌜ (within (ukrainianRanges (ukrainianSettings gender number case)) ≡ true) × (lineRoom ≤ length (now out)) ⌝ }
-    ensures { λ r. ⌜ Wrote (answerTo (ukrainianLeft kind (ukrainianSettings gender number case) (now (s .entry)))) r (now (out .entry)) (now (out .exit)) ⌝ }
+    requires { ⌜ (within (ukrainianRanges (lineSettings gender number case)) ≡ true) × (lineRoom ≤ length (now out)) ⌝ }
+    ensures { λ r. ⌜ Wrote (answerTo (ukrainianLeft kind (lineSettings gender number case) (now (s .entry)))) r (now (out .entry)) (now (out .exit)) ⌝ }
 {
     match kind {
         Kind::Card => card(gender, number, case, s, out),
@@ -134,7 +150,7 @@ pub fn settle(kind: Kind, s: &[u8], out: &mut [u8]) -> usize
 {
     let w = phrases_forms::settings::ukrainian(s);
     let at = w.next;
-    if settings::is_ukrainian(w.a, w.b, w.c) {
+    if settings::is_ukrainian(w.a, w.b, w.c, LETTER_APOSTROPHE) {
         return form(kind, w.a, w.b, w.c, &s[at..], out);
     }
     bad(out)

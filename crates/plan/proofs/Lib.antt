@@ -5,3 +5,4 @@ pub mod Standing
 pub mod Measuring
 pub mod Spoken
 pub mod Short
+pub mod Front

@@ -6,8 +6,9 @@ use base::Answer;
 use base::NO_ROOM;
 ghost use mathlib.Core.Path.{_≡_};
 ghost use Prim.Native.Nat.{ℕ, _+_, _*_, _≤_, _<_};
+ghost use mathlib.Core.Bool.{true};
 ghost use mathlib.Core.List.{List, [], _∷_};
-ghost use lib.ListN.{length};
+ghost use lib.ListN.{length, take};
 ghost use Rattle.base.specs.Buffer.{over};
 ghost use Rattle.base.specs.Answer.{fitted, Answers};
 ghost use Rattle.base.specs.Decides.{Decides};
@@ -15,7 +16,7 @@ ghost use Rattle.words.specs.Part.{part};
 ghost use Rattle.base.specs.Front.{passed};
 ghost use Rattle.base.specs.Room.{longestPiece};
 ghost use Rattle.plan.specs.Phrase.{following, phraseOf};
-ghost use Rattle.plan.specs.Plan.{pieceOf, pieces, says, Added};
+ghost use Rattle.plan.specs.Plan.{pieceOf, pieces, says, Below, Added};
 ghost use Rattle.plan.specs.Stands.{stands as standsAs};
 
 // A plan's number is a place times this, and a separator.
@@ -31,6 +32,21 @@ pub fn push(plan: &mut [u32], at: usize, separator: u8, place: u16) -> usize
 {
     plan[at] = (place as u32) * SEPARATORS + (separator as u32);
     at + 1
+}
+
+// Whether the first n pieces of a plan have their places below a limit.
+pub fn below(plan: &[u32], n: usize, limit: u32) -> bool
+    requires { ⌜ n ≤ length (now plan) ⌝ }
+    ensures { λ r. ⌜ (r ≡ true → Below limit (take n (now (plan .entry)))) ⌝ }
+{
+    let mut i: usize = 0;
+    while i < n {
+        if limit <= plan[i] / SEPARATORS {
+            return false;
+        }
+        i = i + 1;
+    }
+    true
 }
 
 // The length of a piece with its separator.

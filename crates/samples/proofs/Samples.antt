@@ -14,6 +14,7 @@ use Rattle.uk_meanings.specs.Meanings.{shifts, table, meaningOf}
 use Rattle.fr_meanings.specs.Meanings.{shifts as frShifts, table as frTable, meaningOf as frMeaningOf}
 use Rattle.cardinals.specs.Cardinal.{groupsBelow, cardinalWords, cardinalPhrase}
 use Rattle.uk.specs.UkTables.{zeros, gendered, units, teensBases, teensFlexions, tens, hundreds, thousandFlexions, megaBases, megaFlexions}
+use Rattle.uk.specs.Apostrophes.{byApostrophe1, byApostrophe2}
 use Rattle.uk.specs.Ukrainian.{unitForm, teenForm, ukrainianDigits, scaleEnding, scaleNoun, ukrainianGroup, ukrainian}
 use Rattle.uk_ordinal.specs.OrdinalTables.{ordinalZeroBase, oneBase, ordinalUnitBases, ordinalTensBases, hundredBase, adjectiveHardFlexionsSingular, adjectiveHardFlexionsPlural, adjectiveSoftFlexionsSingular, adjectiveSoftFlexionsPlural, year, ordinalHardFlexionsSingularShort}
 use Rattle.uk_ordinal.specs.Ordinal.{flexion, compoundDigits, compoundWord, plainWords, lowestWords, ordinalAt, ordinalFrom, ordinalWords}
@@ -34,12 +35,12 @@ use Rattle.fr_read.specs.Reading.{meanings, seems, groupsRead, guessed}
 use Rattle.fr_read.proofs.Below as below
 use Rattle.fr_read.proofs.Decided.{right}
 use Rattle.fr_calls.specs.FrCalls.{frFromCardinal}
-use Rattle.samples.specs.Samples.{usual, usualFrench, readsNot, Holds, sampleTable, All}
+use Rattle.samples.specs.Samples.{usual, usualWith, usualFrench, readsNot, Holds, sampleTable, All}
 use Rattle.samples.proofs.NoSentence.{no-sentence, thousands}
 
 -- the rules that lines are computed from, and the readers', each under one name, so that to unfold it is to unfold them all
 ukrainianRules : Unit {0}
-unfolding form1 form2 form3 zeros gendered units teensBases teensFlexions tens hundreds thousandFlexions megaBases megaFlexions unitForm teenForm ukrainianDigits scaleEnding scaleNoun ukrainianGroup ukrainian groupsBelow cardinalWords cardinalPhrase
+unfolding form1 form2 form3 byApostrophe1 byApostrophe2 zeros gendered units teensBases teensFlexions tens hundreds thousandFlexions megaBases megaFlexions unitForm teenForm ukrainianDigits scaleEnding scaleNoun ukrainianGroup ukrainian groupsBelow cardinalWords cardinalPhrase
 ukrainianRules = tt
 
 ordinalRules : Unit {0}
@@ -73,7 +74,7 @@ infixr 2 _&_
 _&_ : {A B : Type 0} → A → B → A × B
 a & b = (a, b)
 
--- every line of the table holds, line by line; of `п'ять`, in the last one, the reader makes 0: an ASCII apostrophe ends a word, and `п` means nothing
+-- every line of the table holds, line by line; of `п'ять` and its like the reader makes the number, whatever the apostrophe, and its phrase is another
 pub samples-hold : All sampleTable
 unfolding ordinalRules moneyRules frenchRules ukrainianReader spaces
 samples-hold =
@@ -81,6 +82,9 @@ samples-hold =
     & (refl, refl) & (refl, refl) & (refl, refl) & refl & refl & refl & refl & refl & refl
     & no-sentence (made usual (in-range (ukrainianRanges usual) refl) _) (thousands _ _ refl 20) refl
     & refl & refl & refl & refl & refl & refl & refl & refl & refl & refl & refl
+    & (refl, refl) & (refl, refl) & (refl, refl) & (refl, refl) & (refl, refl) & (refl, refl) & refl & refl & refl & refl & refl
+    & no-sentence (made (usualWith 2) (in-range (ukrainianRanges (usualWith 2)) refl) _) (lone _ _ _ refl 21) refl
+    & no-sentence (made (usualWith 1) (in-range (ukrainianRanges (usualWith 1)) refl) _) (lone _ _ _ refl 21) refl
     & (refl, refl) & (refl, refl) & (refl, refl, same-not _ _ refl) & (refl, refl, same-not _ _ refl) & (refl, refl, same-not _ _ refl) & (refl, refl, same-not _ _ refl)
     & no-sentence (made (inCase accusative usual) (in-range (ukrainianRanges (inCase accusative usual)) refl) _) (thousands _ _ refl 20) refl
     & (refl, refl, same-not _ _ refl) & (refl, refl, same-not _ _ refl) & un-mille & (refl, refl, same-not _ _ refl)

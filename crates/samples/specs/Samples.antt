@@ -1,4 +1,5 @@
--- 01's proved samples: the table, and what it says of each line ("Proved samples"); and samples of what is measured (02, W1).
+-- 01's proved samples: the table, and what it says of each line ("Proved samples"); and samples of what is measured (02, W1) and of the
+-- three apostrophes (02, W2).
 -- Assumes nothing.
 use Prim.Native.Nat.{ℕ}
 use Prim.Native.String.{String}
@@ -6,10 +7,10 @@ use mathlib.Core.Path.{_≡_}
 use mathlib.Core.List.{List, [], _∷_, _++_}
 use lib.IntN.{pos, negℤ}
 use Rattle.base.specs.Utf8.{utf8}
-use Rattle.base.specs.Answer.{malformed, wrongSign, tooLarge, noSentence, Spelling, refused}
+use Rattle.base.specs.Answer.{wrongSetting, malformed, wrongSign, tooLarge, noSentence, Spelling, refused}
 use Rattle.base.specs.Measure.{measured}
 use Rattle.base.specs.Reading.{Reading, Replies}
-use Rattle.settings.specs.Settings.{masculine, feminine, singular, nominative, genitive, dative, accusative, instrumental, locative, oldSpelling, newSpelling, regionFR, regionCH, ukrainianSettings, frenchSettings, inGender, inCase}
+use Rattle.settings.specs.Settings.{masculine, feminine, singular, nominative, genitive, dative, accusative, instrumental, locative, oldSpelling, newSpelling, regionFR, regionCH, letterApostrophe, ukrainianSettings, frenchSettings, inGender, inCase}
 use Rattle.settings.specs.declared.Settings.{Settings}
 use Rattle.uk_calls.specs.UkCardinals.{ukToCardinal, ukFromCardinal}
 use Rattle.uk_ordinal_calls.specs.UkOrdinals.{ukToOrdinal, ukToOrdinalNum, ukToYear}
@@ -18,7 +19,11 @@ use Rattle.fr_calls.specs.FrCalls.{frToCardinal, frToOrdinal, frFromCardinal}
 
 -- "Ukrainian masculine, singular, nominative, or French masculine, unreformed, FR, unless named"
 abbrev pub usual : Settings
-usual = ukrainianSettings masculine singular nominative
+usual = ukrainianSettings masculine singular nominative letterApostrophe
+
+-- the same with the apostrophe of a number
+abbrev pub usualWith : ℕ → Settings
+usualWith apostrophe = ukrainianSettings masculine singular nominative apostrophe
 
 abbrev pub usualFrench : Settings
 usualFrench = frenchSettings masculine oldSpelling regionFR
@@ -120,6 +125,23 @@ measureSamples =
     measures (ukToOrdinalNum (inCase genitive usual) (utf8 "42")) 0 1 7 ∷
     measures (ukMoney usual "UAH" "-0.50") wrongSign 0 0 ∷ []
 
+-- words with each of the signs, and their lengths; a number that is no sign's; reading, which takes the chosen sign alone, and no two signs in one phrase
+abbrev pub apostropheSamples : List Sample
+apostropheSamples =
+    spells (ukCard (usualWith 0) "95") "девʼяносто пʼять" ∷
+    spells (ukCard (usualWith 1) "95") "дев’яносто п’ять" ∷
+    spells (ukCard (usualWith 2) "95") "дев'яносто п'ять" ∷
+    spells (ukOrd (usualWith 1) "959") "дев’ятсот п’ятдесят дев’ятий" ∷
+    spells (ukOrd (usualWith 2) "50000") "п'ятдесятитисячний" ∷
+    spells (ukMoney (usualWith 2) "UAH" "5.15") "п'ять гривень п'ятнадцять копійок" ∷
+    measures (ukCard (usualWith 0) "95") 0 2 31 ∷
+    measures (ukCard (usualWith 1) "95") 0 2 33 ∷
+    measures (ukCard (usualWith 2) "95") 0 2 29 ∷
+    refuses (ukCard (usualWith 3) "2") wrongSetting ∷
+    refuses (ukToOrdinalNum (usualWith 3) (utf8 "42")) wrongSetting ∷
+    readsNot (ukFromCardinal (usualWith 2)) "пʼять" ∷
+    readsNot (ukFromCardinal (usualWith 1)) "дев’яносто пʼять" ∷ []
+
 -- the whole table
 abbrev pub sampleTable : List Sample
-sampleTable = samples ++ (measureSamples ++ habits)
+sampleTable = samples ++ (measureSamples ++ (apostropheSamples ++ habits))

@@ -11,4 +11,5 @@ settingsIn code = record {
   case = code / 256 / 256 % 256;
   reformed = code / 256 / 256 / 256 % 256;
   region = code / 256 / 256 / 256 / 256 % 256;
+  apostrophe = code / 256 / 256 / 256 / 256 / 256 % 256;
 }

@@ -12,6 +12,7 @@ pub struct Settings {
     pub case: u8,
     pub reformed: u8,
     pub region: u8,
+    pub apostrophe: u8,
 }
 
 // The numbers of these genders, grammatical numbers and cases.
@@ -27,21 +28,28 @@ pub const NOMINATIVE: u8 = 0;
 
 pub const GENITIVE: u8 = 1;
 
+// The number of the apostrophe that 01's words have, U+02BC.
+pub const LETTER_APOSTROPHE: u32 = 0;
+
 // Whether the numbers of a Ukrainian call are in their ranges.
-pub fn is_ukrainian(gender: u32, number: u32, case: u32) -> bool
-    ensures { λ r. ⌜ r ≡ within (ukrainianRanges (ukrainianSettings gender number case)) ⌝ }
+pub fn is_ukrainian(gender: u32, number: u32, case: u32, apostrophe: u32) -> bool
+    ensures { λ r. ⌜ r ≡ within (ukrainianRanges (ukrainianSettings gender number case apostrophe)) ⌝ }
 {
     if gender < 3 {
-        if number < 2 { case < 6 } else { false }
+        if number < 2 {
+            if case < 6 { apostrophe < 3 } else { false }
+        } else {
+            false
+        }
     } else {
         false
     }
 }
 
 // Their record.
-pub fn ukrainian(gender: u32, number: u32, case: u32) -> Settings
-    requires { ⌜ within (ukrainianRanges (ukrainianSettings gender number case)) ≡ true ⌝ }
-    ensures { λ r. ⌜ r ≡ ukrainianSettings gender number case ⌝ }
+pub fn ukrainian(gender: u32, number: u32, case: u32, apostrophe: u32) -> Settings
+    requires { ⌜ within (ukrainianRanges (ukrainianSettings gender number case apostrophe)) ≡ true ⌝ }
+    ensures { λ r. ⌜ r ≡ ukrainianSettings gender number case apostrophe ⌝ }
 {
     Settings {
         gender: gender as u8,
@@ -49,6 +57,7 @@ pub fn ukrainian(gender: u32, number: u32, case: u32) -> Settings
         case: case as u8,
         reformed: 0,
         region: 0,
+        apostrophe: apostrophe as u8,
     }
 }
 
@@ -74,6 +83,7 @@ pub fn french(feminine: u32, reformed: u32, region: u32) -> Settings
         case: NOMINATIVE,
         reformed: reformed as u8,
         region: region as u8,
+        apostrophe: 0,
     }
 }
 
@@ -87,6 +97,7 @@ pub fn in_gender(gender: u8, settings: Settings) -> Settings
         case: settings.case,
         reformed: settings.reformed,
         region: settings.region,
+        apostrophe: settings.apostrophe,
     }
 }
 
@@ -100,6 +111,7 @@ pub fn in_form(number: u8, case: u8, settings: Settings) -> Settings
         case,
         reformed: settings.reformed,
         region: settings.region,
+        apostrophe: settings.apostrophe,
     }
 }
 
@@ -107,7 +119,8 @@ pub fn in_form(number: u8, case: u8, settings: Settings) -> Settings
 pub fn packed(settings: Settings) -> u64
     ensures { λ r. ⌜ settingsIn r ≡ settings ⌝ }
 {
-    let spelling = settings.reformed as u64 + 256 * settings.region as u64;
+    let signs = settings.region as u64 + 256 * settings.apostrophe as u64;
+    let spelling = settings.reformed as u64 + 256 * signs;
     let form = settings.number as u64 + 256 * (settings.case as u64 + 256 * spelling);
     settings.gender as u64 + 256 * form
 }
@@ -122,5 +135,6 @@ pub fn unpacked(code: u64) -> Settings
         case: (code / 256 / 256 % 256) as u8,
         reformed: (code / 256 / 256 / 256 % 256) as u8,
         region: (code / 256 / 256 / 256 / 256 % 256) as u8,
+        apostrophe: (code / 256 / 256 / 256 / 256 / 256 % 256) as u8,
     }
 }

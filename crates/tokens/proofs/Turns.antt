@@ -17,25 +17,33 @@ use lib.Seq.{drop-drop, drop-cons, take-all}
 use Rattle.base.specs.Bytes.{num, Bytes}
 use Rattle.base.proofs.Numbers.{bytes-drop}
 use Rattle.tables.proofs.Tests.{all-at}
-use Rattle.tokens.specs.Tokens.{firstWord, afterWord, fullKey, key, Begun, Took}
+use Rattle.tokens.specs.Tokens.{isGap, firstWord, afterWord, fullKey, key, Begun, Took}
 use Rattle.tokens.specs.Turns.{lows, letters, lastKey, Ends}
 
--- a byte below 64 is found
+-- a gap is found
 abbrev mask : ℕ → ℕ
 mask zero = 0
 mask (suc n) = mask n * 256 + 64
 
-abbrev shown : ℕ → ℕ → Bool
-shown b c = eqb (bitAnd (bitOr b (c * 128 + b / 2)) 64) (cond (ltb b 64) 0 64)
+abbrev twos : ℕ → ℕ
+twos zero = 0
+twos (suc n) = twos n * 256 + 2
 
-shows : (b c : ℕ) → b < 256 → c < 2 → bitAnd (bitOr b (c * 128 + b / 2)) 64 ≡ cond (ltb b 64) 0 64
+-- a number in whose bytes 64 stands where w has no gap
+abbrev lit : ℕ → ℕ → ℕ
+lit n w = bitOr (bitOr w (w / 2)) (bitAnd w (twos n) * 32)
+
+abbrev litByte : ℕ → ℕ → ℕ
+litByte b c = bitOr (bitOr b (c * 128 + b / 2)) (bitAnd b 2 * 32)
+
+shows : (b c : ℕ) → b < 256 → c < 2 → bitAnd (litByte b c) 64 ≡ cond (isGap b) 0 64
 shows b c h l =
-    let t = all-at 0 512 (λ (x : ℕ). shown (x / 2) (x % 2)) refl (b * 2 + c) (omega arith) (omega arith) in
+    let t = all-at 0 512 (λ (x : ℕ). eqb (bitAnd (litByte (x / 2) (x % 2)) 64) (cond (isGap (x / 2)) 0 64)) refl (b * 2 + c) (omega arith) (omega arith) in
     let x : (b * 2 + c) / 2 ≡ b = omega arith in
     let y : (b * 2 + c) % 2 ≡ c = omega arith in
     eqb-true _ _ (rw (x, y) at t)
 
-seen : (n w : ℕ) → bitAnd (bitOr w (w / 2)) (mask (suc n)) ≡ bitAnd (bitOr (w / 256) (w / 256 / 2)) (mask n) * 256 + cond (ltb (w % 256) 64) 0 64
+seen : (n w : ℕ) → bitAnd (lit (suc n) w) (mask (suc n)) ≡ bitAnd (lit n (w / 256)) (mask n) * 256 + cond (isGap (w % 256)) 0 64
 seen n w =
     let v = w / 256 in
     let b = w % 256 in
@@ -43,23 +51,28 @@ seen n w =
     let x : w ≡ v * 256 + b = omega arith in
     let y : w / 2 ≡ v / 2 * 256 + r = omega arith in
     let o : bitOr w (w / 2) ≡ bitOr v (v / 2) * 256 + bitOr b r = ap₂ bitOr x y ∙ or-block 8 v (v / 2) b r (omega arith) (omega arith) in
-    ap (λ (t : ℕ). bitAnd t (mask n * 256 + 64)) o ∙ and-block 8 (bitOr v (v / 2)) (mask n) (bitOr b r) 64 (or-lt 8 b r (omega arith) (omega arith)) (omega arith)
-    ∙ ap (λ (t : ℕ). bitAnd (bitOr v (v / 2)) (mask n) * 256 + t) (shows b (v % 2) (omega arith) (omega arith))
+    let a : bitAnd w (twos (suc n)) ≡ bitAnd v (twos n) * 256 + bitAnd b 2 = ap (λ (t : ℕ). bitAnd t (twos (suc n))) x ∙ and-block 8 v (twos n) b 2 (omega arith) (omega arith) in
+    let m : bitAnd w (twos (suc n)) * 32 ≡ bitAnd v (twos n) * 32 * 256 + bitAnd b 2 * 32 = omega (arith, a) in
+    let i : bitOr b r < 256 = or-lt 8 b r (omega arith) (omega arith) in
+    let j : bitAnd b 2 * 32 < 256 = omega (arith, and-le-r b 2) in
+    let f : lit (suc n) w ≡ lit n v * 256 + litByte b (v % 2) = ap₂ bitOr o m ∙ or-block 8 (bitOr v (v / 2)) (bitAnd v (twos n) * 32) (bitOr b r) (bitAnd b 2 * 32) i j in
+    ap (λ (t : ℕ). bitAnd t (mask n * 256 + 64)) f ∙ and-block 8 (lit n v) (mask n) (litByte b (v % 2)) 64 (or-lt 8 (bitOr b r) (bitAnd b 2 * 32) i j) (omega arith)
+    ∙ ap (λ (t : ℕ). bitAnd (lit n v) (mask n) * 256 + t) (shows b (v % 2) (omega arith) (omega arith))
 
-low-is : (n w : ℕ) → mask n - bitAnd (bitOr w (w / 2)) (mask n) ≡ lows n w
+low-is : (n w : ℕ) → mask n - bitAnd (lit n w) (mask n) ≡ lows n w
 unfolding lows
-low-is zero w = rw (and-zero-r (bitOr w (w / 2))) refl
-low-is (suc n) w = go (ltb (w % 256) 64) (seen n w) (low-is n (w / 256))
+low-is zero w = rw (and-zero-r (lit 0 w)) refl
+low-is (suc n) w = go (isGap (w % 256)) (seen n w) (low-is n (w / 256))
   where
     v : ℕ
     v = w / 256
 
-    go : (t : Bool) → bitAnd (bitOr w (w / 2)) (mask (suc n)) ≡ bitAnd (bitOr v (v / 2)) (mask n) * 256 + cond t 0 64 → mask n - bitAnd (bitOr v (v / 2)) (mask n) ≡ lows n v
-        → mask (suc n) - bitAnd (bitOr w (w / 2)) (mask (suc n)) ≡ lows n v * 256 + cond t 64 0
-    go true e r = omega (arith, and-le-r (bitOr v (v / 2)) (mask n))
-    go false e r = omega (arith, and-le-r (bitOr v (v / 2)) (mask n))
+    go : (t : Bool) → bitAnd (lit (suc n) w) (mask (suc n)) ≡ bitAnd (lit n v) (mask n) * 256 + cond t 0 64 → mask n - bitAnd (lit n v) (mask n) ≡ lows n v
+        → mask (suc n) - bitAnd (lit (suc n) w) (mask (suc n)) ≡ lows n v * 256 + cond t 64 0
+    go true e r = omega (arith, and-le-r (lit n v) (mask n))
+    go false e r = omega (arith, and-le-r (lit n v) (mask n))
 
-pub low-eight : (w : ℕ) → 4629771061636907072 - bitAnd (bitOr w (w / 2)) 4629771061636907072 ≡ lows 8 w
+pub low-eight : (w : ℕ) → 4629771061636907072 - bitAnd (bitOr (bitOr w (w / 2)) (bitAnd w 144680345676153346 * 32)) 4629771061636907072 ≡ lows 8 w
 low-eight w = low-is 8 w
 
 -- the lowest bit set
@@ -89,11 +102,11 @@ none k n =
     let e : n * 256 + 0 ≡ n * 2 * 2 * 2 * 2 * 2 * 2 * 2 * 2 = omega arith in
     rw (e, even, even, even, even, even, even, even, even) refl
 
--- it tells how many letters stand before the first byte below 64
+-- it tells how many letters stand before the first gap
 lowest : (n w : ℕ) → (lows n w ≡ 0 → ⊥) → (trailingZeros (bits n) (lows n w) ≡ letters n w * 8 + 6) × (letters n w < n)
 unfolding lows letters
 lowest zero w e = absurd (e refl)
-lowest (suc n) w e = go (ltb (w % 256) 64) e (lowest n (w / 256))
+lowest (suc n) w e = go (isGap (w % 256)) e (lowest n (w / 256))
   where
     v : ℕ
     v = w / 256
@@ -132,7 +145,7 @@ over zero x h l e = (omega arith, refl)
 over (suc n) [] h l e = absurd (omega arith)
 over (suc n) (b ∷ x) h l e =
     let m = low-byte b (num (take n x)) (h 0) in
-    go (ltb b 64) (rw (m .0, m .1) at e) (over n x (rest b x h) (omega arith))
+    go (isGap b) (rw (m .0, m .1) at e) (over n x (rest b x h) (omega arith))
   where
     go : (t : Bool) → lows n (num (take n x)) * 256 + cond t 64 0 ≡ 0
         → (lows n (num (take n x)) ≡ 0 → (fullKey (firstWord x) ≡ num (take n x) + 2 ^ (n * 8) * fullKey (firstWord (drop n x))) × (afterWord x ≡ afterWord (drop n x)))
@@ -145,7 +158,7 @@ over (suc n) (b ∷ x) h l e =
         let g : 2 ^ (suc n * 8) * w ≡ 256 * (2 ^ (n * 8) * w) = rw (q, pow-add 2 8 (n * 8)) (mul-assoc 256 (2 ^ (n * 8)) w) in
         (omega (arith, r .0, g), r .1)
 
--- a byte below 64 among the first n, or the end of the text, ends its first word
+-- a gap among the first n, or the end of the text, ends its first word
 ended : (n : ℕ) (x : List ℕ) → Bytes x → (lows n (num (take n x)) ≡ 0 → ⊥)
     → (fullKey (firstWord x) ≡ lastKey (letters n (num (take n x))) (num (take n x))) × (afterWord x ≡ drop (suc (letters n (num (take n x)))) x) × (letters n (num (take n x)) ≤ length x)
 unfolding lows letters firstWord afterWord fullKey
@@ -153,7 +166,7 @@ ended zero x h e = absurd (e refl)
 ended (suc n) [] h e = (refl, refl, omega arith)
 ended (suc n) (b ∷ x) h e =
     let m = low-byte b (num (take n x)) (h 0) in
-    rw (m .0, m .1) (go (ltb b 64) (rw (m .0, m .1) at e) (ended n x (rest b x h)))
+    rw (m .0, m .1) (go (isGap b) (rw (m .0, m .1) at e) (ended n x (rest b x h)))
   where
     w : ℕ
     w = num (take n x)
@@ -177,7 +190,7 @@ short : (n : ℕ) (x : List ℕ) → Bytes x → length x < n → lows n (num x)
 unfolding lows
 short zero x h l e = omega arith
 short (suc n) [] h l e = omega arith
-short (suc n) (b ∷ x) h l e = let m = low-byte b (num x) (h 0) in short n x (rest b x h) (omega arith) (go (ltb b 64) (rw (m .0, m .1) at e))
+short (suc n) (b ∷ x) h l e = let m = low-byte b (num x) (h 0) in short n x (rest b x h) (omega arith) (go (isGap b) (rw (m .0, m .1) at e))
   where
     go : (t : Bool) → lows n (num x) * 256 + cond t 64 0 ≡ 0 → lows n (num x) ≡ 0
     go t e = omega arith

@@ -1,18 +1,18 @@
 -- A text taken word by word. What a reader makes of a text from these is held against the grammar's own words afterwards, so nothing here has to
 -- be believed.
 -- Assumes nothing.
-use Prim.Native.Nat.{ℕ, _+_, _*_, _%_, _<_, _≤_}
+use Prim.Native.Nat.{ℕ, _+_, _*_, _/_, _%_, _<_, _≤_}
 use mathlib.Core.Path.{_≡_}
-use mathlib.Core.Bool.{Bool, cond}
+use mathlib.Core.Bool.{Bool, cond, _&&_}
 use mathlib.Core.List.{List, [], _∷_}
-use lib.Dec.{ltb}
+use lib.Dec.{eqb, ltb}
 use lib.ListN.{length, drop}
 use Rattle.base.specs.Divide.{toFirst}
 use Rattle.base.specs.Join.{Word}
 
--- words end at a space or a hyphen, or at any other byte below 64: no letter has one
+-- words end at a space or a hyphen, or at any other byte below 64 that has no 2 in it: no letter has one, and the ASCII apostrophe is none
 abbrev pub isGap : ℕ → Bool
-isGap b = ltb b 64
+isGap b = ltb b 64 && eqb (b / 2 % 2) 0
 
 -- the first word of a text
 unfoldable pub firstWord : List ℕ → Word

@@ -3,21 +3,21 @@
 use Prim.Native.Nat.{ℕ, zero, suc, _+_, _*_, _/_, _%_, _^_}
 use mathlib.Core.Path.{_≡_}
 use mathlib.Core.Bool.{cond}
-use lib.Dec.{ltb}
+use Rattle.tokens.specs.Tokens.{isGap}
 
--- 64 in the place of each of a number's n lowest bytes that is below 64
+-- 64 in the place of each of a number's n lowest bytes that is a gap
 unfoldable pub lows : ℕ → ℕ → ℕ
 lows zero w = 0
-lows (suc n) w = lows n (w / 256) * 256 + cond (ltb (w % 256) 64) 64 0
+lows (suc n) w = lows n (w / 256) * 256 + cond (isGap (w % 256)) 64 0
 
--- one of eight bytes is below 64
+-- one of eight bytes is a gap
 abbrev pub Ends : ℕ → Type 0
 Ends w = lows 8 w ≡ 0 → ⊥
 
--- how many of a number's n lowest bytes stand before the first that is below 64
+-- how many of a number's n lowest bytes stand before the first that is a gap
 unfoldable pub letters : ℕ → ℕ → ℕ
 letters zero w = 0
-letters (suc n) w = cond (ltb (w % 256) 64) 0 (suc (letters n (w / 256)))
+letters (suc n) w = cond (isGap (w % 256)) 0 (suc (letters n (w / 256)))
 
 -- a word's last p bytes as one number with 62 above them, where they are the lowest of w
 abbrev pub lastKey : ℕ → ℕ → ℕ

@@ -37,4 +37,4 @@ agreed-case : (S : Settings) (t u : ℕ) → S .case < 6 → agreedCase S t u < 
 agreed-case S t u h = let p : genitive < 6 = omega arith in search (either-below, p, h)
 
 pub agrees : (t u : ℕ) (S : Settings) → Within (ukrainianRanges S) → Within (ukrainianRanges (agreed t u S))
-agrees t u S w = (w .0, (agreed-number t u, (agreed-case S t u (w .1 .1 .0), tt)))
+agrees t u S w = (w .0, (agreed-number t u, (agreed-case S t u (w .1 .1 .0), w .1 .1 .1)))

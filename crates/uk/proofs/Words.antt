@@ -15,6 +15,7 @@ use Rattle.settings.specs.declared.Settings.{Settings}
 use Rattle.cardinals.specs.Cardinal.{cardinalPhrase}
 use Rattle.cardinals.proofs.Words.{GroupsSome, SolidWords, cardinal-solid}
 use Rattle.uk.specs.UkTables.{zeros, gendered, units, teensBases, teensFlexions, tens, hundreds, thousandFlexions, megaBases, megaFlexions}
+use Rattle.uk.specs.Apostrophes.{byApostrophe1, byApostrophe2}
 use Rattle.uk.specs.Rules.{DigitWords, opt, lowWords, numWords}
 use Rattle.uk.specs.Ukrainian.{atOrder, unitForm, teenForm, ukrainianDigits, agreed, scaleEnding, scaleNoun, nounWords, ukrainianGroup, ukrainian}
 use Rattle.uk.proofs.Laws.{ordered, agrees}
@@ -28,25 +29,25 @@ gendered-solid : (i j k : ℕ) → i < 2 → j < 3 → k < 6 → Solid (form3 ge
 unfolding form3 gendered
 gendered-solid = at3 2 3 6 gendered refl
 
-unit-solid : (i j : ℕ) → i < 7 → j < 6 → Solid (form2 units i j)
-unfolding form2 units
-unit-solid = at2 7 6 units refl
+unit-solid : (a i j : ℕ) → a < 3 → i < 7 → j < 6 → Solid (form3 (byApostrophe2 units) a i j)
+unfolding form3 byApostrophe2 units
+unit-solid = at3 3 7 6 (byApostrophe2 units) refl
 
-pub teen-solid : (i : ℕ) → i < 10 → Solid (form1 teensBases i)
-unfolding form1 teensBases
-teen-solid = at1 10 teensBases refl
+pub teen-solid : (a i : ℕ) → a < 3 → i < 10 → Solid (form2 (byApostrophe1 teensBases) a i)
+unfolding form2 byApostrophe1 teensBases
+teen-solid = at2 3 10 (byApostrophe1 teensBases) refl
 
 teen-ending : (i : ℕ) → i < 6 → Trails (form1 teensFlexions i)
 unfolding form1 teensFlexions
 teen-ending = at1 6 teensFlexions refl
 
-ten-solid : (i j : ℕ) → i < 8 → j < 6 → Solid (form2 tens i j)
-unfolding form2 tens
-ten-solid = at2 8 6 tens refl
+ten-solid : (a i j : ℕ) → a < 3 → i < 8 → j < 6 → Solid (form3 (byApostrophe2 tens) a i j)
+unfolding form3 byApostrophe2 tens
+ten-solid = at3 3 8 6 (byApostrophe2 tens) refl
 
-hundred-solid : (i j : ℕ) → i < 9 → j < 6 → Solid (form2 hundreds i j)
-unfolding form2 hundreds
-hundred-solid = at2 9 6 hundreds refl
+hundred-solid : (a i j : ℕ) → a < 3 → i < 9 → j < 6 → Solid (form3 (byApostrophe2 hundreds) a i j)
+unfolding form3 byApostrophe2 hundreds
+hundred-solid = at3 3 9 6 (byApostrophe2 hundreds) refl
 
 thousand-ending : (i j : ℕ) → i < 2 → j < 6 → Trails (form2 thousandFlexions i j)
 unfolding form2 thousandFlexions
@@ -71,13 +72,14 @@ pub digits-solid : (S : Settings) → Within (ukrainianRanges S) → SolidDigits
 unfolding ukrainianDigits unitForm teenForm
 digits-solid S w =
     let c = w .1 .1 .0 in
+    let p = w .1 .1 .1 .0 in
     record {
-      hundred = λ h a b. hundred-solid (h - 1) (S .case) (omega arith) c;
-      ten = λ t a b. ten-solid (t - 2) (S .case) (omega arith) c;
-      teen = λ v a b. followed (teen-solid (v - 10) (omega arith)) (teen-ending (S .case) c);
+      hundred = λ h a b. hundred-solid (S .apostrophe) (h - 1) (S .case) p (omega arith) c;
+      ten = λ t a b. ten-solid (S .apostrophe) (t - 2) (S .case) p (omega arith) c;
+      teen = λ v a b. followed (teen-solid (S .apostrophe) (v - 10) p (omega arith)) (teen-ending (S .case) c);
       unit = λ u a b. either Solid (ltb u 3)
           (λ e. gendered-solid (u - 1) (S .gender) (S .case) (omega (arith, ltb-true u 3 e)) (w .0) c)
-          (λ e. unit-solid (u - 3) (S .case) (omega (arith, ltb-false u 3 e)) c);
+          (λ e. unit-solid (S .apostrophe) (u - 3) (S .case) p (omega (arith, ltb-false u 3 e)) c);
     }
 
 -- so are those of a group's digits; and a group above 0 has one

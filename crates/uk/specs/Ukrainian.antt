@@ -12,6 +12,7 @@ use Rattle.settings.specs.Settings.{masculine, feminine, singular, plural, nomi
 use Rattle.settings.specs.declared.Settings.{Settings}
 use Rattle.cardinals.specs.Lexicon.{Lexicon}
 use Rattle.uk.specs.UkTables.{zeros, gendered, units, teensBases, teensFlexions, tens, hundreds, thousandFlexions, megaBases, megaFlexions}
+use Rattle.uk.specs.Apostrophes.{byApostrophe1, byApostrophe2}
 use Rattle.uk.specs.Rules.{DigitWords, numWords}
 
 -- the settings of the units at an order: "the caller's gender at order 0, feminine at order 1, masculine above"
@@ -22,17 +23,17 @@ atOrder (suc (suc k)) S = inGender masculine S
 
 -- a unit 1 to 9: "Units 1 and 2 come from `GENDERED`"
 unfoldable pub unitForm : Settings → ℕ → Word
-unitForm S u = cond (ltb u 3) (form3 gendered (u - 1) (S .gender) (S .case)) (form2 units (u - 3) (S .case))
+unitForm S u = cond (ltb u 3) (form3 gendered (u - 1) (S .gender) (S .case)) (form3 (byApostrophe2 units) (S .apostrophe) (u - 3) (S .case))
 
 -- a teen by its value 10 to 19
 unfoldable pub teenForm : Settings → ℕ → Word
-teenForm S v = form1 teensBases (v - 10) ++ form1 teensFlexions (S .case)
+teenForm S v = form2 (byApostrophe1 teensBases) (S .apostrophe) (v - 10) ++ form1 teensFlexions (S .case)
 
 -- the words of digits under settings
 unfoldable pub ukrainianDigits : Settings → DigitWords
 ukrainianDigits S = record {
-  hundred = λ h. form2 hundreds (h - 1) (S .case);
-  ten = λ t. form2 tens (t - 2) (S .case);
+  hundred = λ h. form3 (byApostrophe2 hundreds) (S .apostrophe) (h - 1) (S .case);
+  ten = λ t. form3 (byApostrophe2 tens) (S .apostrophe) (t - 2) (S .case);
   teen = λ v. teenForm S v;
   unit = λ u. unitForm S u;
 }

@@ -11,19 +11,23 @@ use settings::NOMINATIVE;
 use settings::PLURAL;
 use settings::SINGULAR;
 use settings::Settings;
+use uk_digits::hundreds;
+use uk_digits::tens;
+use uk_digits::units;
 ghost use mathlib.Core.Path.{_≡_};
 ghost use Prim.Native.Nat.{_-_, _*_, _≤_, _<_};
-ghost use lib.ListN.{length};
+ghost use lib.ListN.{length, take};
 ghost use Rattle.base.specs.Answer.{fitted, Answers};
 ghost use Rattle.base.specs.Measure.{measureOf};
 ghost use Rattle.base.specs.Decides.{Decides};
-ghost use Rattle.base.specs.Utf8.{utf8, form1, form2};
+ghost use Rattle.base.specs.Utf8.{utf8, form1, form2, form3};
 ghost use Rattle.base.specs.Room.{longestPiece};
 ghost use Rattle.words.specs.Part.{part};
 ghost use Rattle.plan.specs.Phrase.{phraseOf};
 ghost use Rattle.plan.specs.Plan.{pieces, says};
-ghost use Rattle.uk.specs.Pool.{ukPool};
+ghost use Rattle.uk.specs.Pool.{ukPool, frontSize};
 ghost use Rattle.uk.specs.UkTables.{zeros, teensBases, teensFlexions, tens, hundreds, megaBases};
+ghost use Rattle.uk.specs.Apostrophes.{byApostrophe1, byApostrophe2};
 ghost use Rattle.settings.specs.Settings.{ukrainianRanges, Within};
 ghost use Rattle.uk.specs.Ukrainian.{atOrder, unitForm, many as manyOf, agreed, scaleEnding};
 
@@ -42,12 +46,23 @@ fn texts() -> [u8; pool::SIZE]
     pool::POOL
 }
 
+// The first of them, among which are those of everyday figures: to make fewer takes less time.
+fn front() -> [u8; pool::FRONT]
+    ensures { λ r. ⌜ r ≡ take frontSize ukPool ⌝ }
+{
+    pool::FRONT_POOL
+}
+
 // Answers with what the first n pieces of a plan say.
 pub fn speak(plan: &[u32], n: usize, out: &mut [u8]) -> Answer
     requires { ⌜ (n ≤ length (now plan)) × (n ≤ 1000) ⌝ }
     ensures { λ r. ⌜ Answers r (now (out .entry)) (now (out .exit)) (fitted (now (out .entry)) (phraseOf (says ukPool (now (plan .entry)) n))) ⌝ }
     ensures { λ r. ⌜ r .length ≤ longestPiece * n ⌝ }
 {
+    if plan::below(plan, n, pool::FRONT_PLACES) {
+        let first = front();
+        return plan::speak(&first, plan, n, out);
+    }
     let lent = texts();
     plan::speak(&lent, plan, n, out)
 }
@@ -65,6 +80,10 @@ pub fn measure(plan: &[u32], n: usize) -> Measure
 pub fn stands(plan: &[u32], s: &[u8]) -> bool
     ensures { λ r. ⌜ Decides r (phraseOf (pieces ukPool (now (plan .entry))) ≡ now (s .entry)) ⌝ }
 {
+    if plan::below(plan, plan.len(), pool::FRONT_PLACES) {
+        let first = front();
+        return plan::stands(&first, plan, s);
+    }
     let lent = texts();
     plan::stands(&lent, plan, s)
 }
@@ -95,15 +114,17 @@ pub fn unit(settings: Settings, u: usize) -> u16
     if u < 3 {
         return places::GENDERED[u - 1][gender][case];
     }
-    places::UNITS[u - 3][case]
+    let apostrophe = settings.apostrophe as usize;
+    units::place((apostrophe * units::ROWS + (u - 3)) * CASES + case)
 }
 
 // The stem of a teen, by its units digit, and its ending.
-pub fn teen(u: usize) -> u16
-    requires { ⌜ u < 10 ⌝ }
-    ensures { λ r. ⌜ part ukPool r ≡ form1 teensBases u ⌝ }
+pub fn teen(settings: Settings, u: usize) -> u16
+    requires { ⌜ Within (ukrainianRanges settings) × (u < 10) ⌝ }
+    ensures { λ r. ⌜ part ukPool r ≡ form2 (byApostrophe1 teensBases) (settings .apostrophe) u ⌝ }
 {
-    places::TEENS_BASES[u]
+    let apostrophe = settings.apostrophe as usize;
+    places::TEENS_BASES[apostrophe][u]
 }
 
 pub fn teen_ending(settings: Settings) -> u16
@@ -117,19 +138,21 @@ pub fn teen_ending(settings: Settings) -> u16
 // A tens word above 1.
 pub fn ten(settings: Settings, t: usize) -> u16
     requires { ⌜ Within (ukrainianRanges settings) × (1 < t) × (t < 10) ⌝ }
-    ensures { λ r. ⌜ part ukPool r ≡ form2 tens (t - 2) (settings .case) ⌝ }
+    ensures { λ r. ⌜ part ukPool r ≡ form3 (byApostrophe2 tens) (settings .apostrophe) (t - 2) (settings .case) ⌝ }
 {
+    let apostrophe = settings.apostrophe as usize;
     let case = settings.case as usize;
-    places::TENS[t - 2][case]
+    tens::place((apostrophe * tens::ROWS + (t - 2)) * CASES + case)
 }
 
 // A hundred word.
 pub fn hundred(settings: Settings, h: usize) -> u16
     requires { ⌜ Within (ukrainianRanges settings) × (0 < h) × (h < 10) ⌝ }
-    ensures { λ r. ⌜ part ukPool r ≡ form2 hundreds (h - 1) (settings .case) ⌝ }
+    ensures { λ r. ⌜ part ukPool r ≡ form3 (byApostrophe2 hundreds) (settings .apostrophe) (h - 1) (settings .case) ⌝ }
 {
+    let apostrophe = settings.apostrophe as usize;
     let case = settings.case as usize;
-    places::HUNDREDS[h - 1][case]
+    hundreds::place((apostrophe * hundreds::ROWS + (h - 1)) * CASES + case)
 }
 
 // The stem of the scale noun of an order above 0.

@@ -19,10 +19,10 @@ ghost use Rattle.figures.specs.Text.{wellFormed, unsigned};
 ghost use Rattle.uk_calls.specs.UkCardinals.{ukToCardinal, ukFromCardinal};
 
 // The refusals of a spelling call but 7, or 0.
-fn refuse(gender: u32, number: u32, case: u32, text: &[u8]) -> u32
-    ensures { λ r. ⌜ r ≡ ukToCardinal (ukrainianSettings gender number case) (now (text .entry)) .refusal ⌝ }
+fn refuse(gender: u32, number: u32, case: u32, apostrophe: u32, text: &[u8]) -> u32
+    ensures { λ r. ⌜ r ≡ ukToCardinal (ukrainianSettings gender number case apostrophe) (now (text .entry)) .refusal ⌝ }
 {
-    if settings::is_ukrainian(gender, number, case) {
+    if settings::is_ukrainian(gender, number, case, apostrophe) {
         figures::refusals::number_of(figures::refusals::judge_cardinal(text, DIGITS))
     } else {
         WRONG_SETTING
@@ -71,36 +71,64 @@ fn read(settings: Settings, said: &[u8], out: &mut [u8]) -> Answer
 }
 
 // The cardinal of a number text.
-pub fn to_cardinal(gender: u32, number: u32, case: u32, text: &[u8], out: &mut [u8]) -> Answer
-    ensures { λ r. ⌜ Answers r (now (out .entry)) (now (out .exit)) (replied (ukToCardinal (ukrainianSettings gender number case) (now (text .entry))) (now (out .entry))) ⌝ }
+pub fn to_cardinal(
+    gender: u32,
+    number: u32,
+    case: u32,
+    apostrophe: u32,
+    text: &[u8],
+    out: &mut [u8],
+) -> Answer
+    ensures { λ r. ⌜ Answers r (now (out .entry)) (now (out .exit)) (replied (ukToCardinal (ukrainianSettings gender number case apostrophe) (now (text .entry))) (now (out .entry))) ⌝ }
     ensures { λ r. ⌜ r .length ≤ phraseRoom ⌝ }
 {
-    let n = refuse(gender, number, case, text);
+    let n = refuse(gender, number, case, apostrophe, text);
     if n == 0 {
-        spell(settings::ukrainian(gender, number, case), text, out)
+        spell(
+            settings::ukrainian(gender, number, case, apostrophe),
+            text,
+            out,
+        )
     } else {
         base::refused(n)
     }
 }
 
 // What that phrase measures.
-pub fn measure_cardinal(gender: u32, number: u32, case: u32, text: &[u8]) -> Measure
-    ensures { λ r. ⌜ r ≡ measured (ukToCardinal (ukrainianSettings gender number case) (now (text .entry))) ⌝ }
+pub fn measure_cardinal(
+    gender: u32,
+    number: u32,
+    case: u32,
+    apostrophe: u32,
+    text: &[u8],
+) -> Measure
+    ensures { λ r. ⌜ r ≡ measured (ukToCardinal (ukrainianSettings gender number case apostrophe) (now (text .entry))) ⌝ }
 {
-    let n = refuse(gender, number, case, text);
+    let n = refuse(gender, number, case, apostrophe, text);
     if n == 0 {
-        measure(settings::ukrainian(gender, number, case), text)
+        measure(settings::ukrainian(gender, number, case, apostrophe), text)
     } else {
         base::unmeasured(n)
     }
 }
 
 // The number text of a cardinal.
-pub fn from_cardinal(gender: u32, number: u32, case: u32, said: &[u8], out: &mut [u8]) -> Answer
-    ensures { λ r. ⌜ ReadsAs (ukFromCardinal (ukrainianSettings gender number case)) (now (said .entry)) r (now (out .entry)) (now (out .exit)) ⌝ }
+pub fn from_cardinal(
+    gender: u32,
+    number: u32,
+    case: u32,
+    apostrophe: u32,
+    said: &[u8],
+    out: &mut [u8],
+) -> Answer
+    ensures { λ r. ⌜ ReadsAs (ukFromCardinal (ukrainianSettings gender number case apostrophe)) (now (said .entry)) r (now (out .entry)) (now (out .exit)) ⌝ }
 {
-    if settings::is_ukrainian(gender, number, case) {
-        read(settings::ukrainian(gender, number, case), said, out)
+    if settings::is_ukrainian(gender, number, case, apostrophe) {
+        read(
+            settings::ukrainian(gender, number, case, apostrophe),
+            said,
+            out,
+        )
     } else {
         base::refused(WRONG_SETTING)
     }

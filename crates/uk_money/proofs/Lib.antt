@@ -6,3 +6,4 @@ pub mod Placed
 pub mod Apart
 pub mod Amounts
 pub mod Words
+pub mod Apostrophes

@@ -76,19 +76,20 @@ pub fn to_currency(
     gender: u32,
     number: u32,
     case: u32,
+    apostrophe: u32,
     code: &[u8],
     text: &[u8],
     out: &mut [u8],
 ) -> Answer
-    ensures { λ r. ⌜ Answers r (now (out .entry)) (now (out .exit)) (replied (ukToCurrency (ukrainianSettings gender number case) (now (code .entry)) (now (text .entry))) (now (out .entry))) ⌝ }
+    ensures { λ r. ⌜ Answers r (now (out .entry)) (now (out .exit)) (replied (ukToCurrency (ukrainianSettings gender number case apostrophe) (now (code .entry)) (now (text .entry))) (now (out .entry))) ⌝ }
     ensures { λ r. ⌜ r .length ≤ phraseRoom ⌝ }
 {
-    if settings::is_ukrainian(gender, number, case) {
+    if settings::is_ukrainian(gender, number, case, apostrophe) {
         let currency = uk_money::code_of(code);
         if currency < CURRENCIES {
             let n = figures::refusals::number_of(figures::refusals::judge_amount(text));
             if n == 0 {
-                let settings = settings::ukrainian(gender, number, case);
+                let settings = settings::ukrainian(gender, number, case, apostrophe);
                 return spell(settings, currency, text, out);
             }
             return base::refused(n);
@@ -99,15 +100,22 @@ pub fn to_currency(
 }
 
 // What that phrase measures.
-pub fn measure_currency(gender: u32, number: u32, case: u32, code: &[u8], text: &[u8]) -> Measure
-    ensures { λ r. ⌜ r ≡ measured (ukToCurrency (ukrainianSettings gender number case) (now (code .entry)) (now (text .entry))) ⌝ }
+pub fn measure_currency(
+    gender: u32,
+    number: u32,
+    case: u32,
+    apostrophe: u32,
+    code: &[u8],
+    text: &[u8],
+) -> Measure
+    ensures { λ r. ⌜ r ≡ measured (ukToCurrency (ukrainianSettings gender number case apostrophe) (now (code .entry)) (now (text .entry))) ⌝ }
 {
-    if settings::is_ukrainian(gender, number, case) {
+    if settings::is_ukrainian(gender, number, case, apostrophe) {
         let currency = uk_money::code_of(code);
         if currency < CURRENCIES {
             let n = figures::refusals::number_of(figures::refusals::judge_amount(text));
             if n == 0 {
-                let settings = settings::ukrainian(gender, number, case);
+                let settings = settings::ukrainian(gender, number, case, apostrophe);
                 return measure(settings, currency, text);
             }
             return base::unmeasured(n);
@@ -122,16 +130,17 @@ pub fn from_currency(
     gender: u32,
     number: u32,
     case: u32,
+    apostrophe: u32,
     code: &[u8],
     said: &[u8],
     out: &mut [u8],
 ) -> Answer
-    ensures { λ r. ⌜ ReadsAs (ukFromCurrency (ukrainianSettings gender number case) (now (code .entry))) (now (said .entry)) r (now (out .entry)) (now (out .exit)) ⌝ }
+    ensures { λ r. ⌜ ReadsAs (ukFromCurrency (ukrainianSettings gender number case apostrophe) (now (code .entry))) (now (said .entry)) r (now (out .entry)) (now (out .exit)) ⌝ }
 {
-    if settings::is_ukrainian(gender, number, case) {
+    if settings::is_ukrainian(gender, number, case, apostrophe) {
         let currency = uk_money::code_of(code);
         if currency < CURRENCIES {
-            let settings = settings::ukrainian(gender, number, case);
+            let settings = settings::ukrainian(gender, number, case, apostrophe);
             return read(settings, currency, said, out);
         }
         return base::refused(WRONG_CODE);

@@ -2,3 +2,4 @@ pub mod Listed
 pub mod Tables
 pub mod Cased
 pub mod Words
+pub mod Apostrophes

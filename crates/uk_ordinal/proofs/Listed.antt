@@ -5,67 +5,71 @@ use mathlib.Core.List.{List, [], _∷_}
 
 abbrev pub ordinalZeroBase : ℕ
 ordinalZeroBase =
-    36652
+    23012
 
 abbrev pub oneBase : ℕ
 oneBase =
-    17248
+    30128
 
-abbrev pub ordinalUnitBases : List ℕ
+abbrev pub ordinalUnitBases : List (List ℕ)
 ordinalUnitBases =
-    33888 ∷ 43368 ∷ 41288 ∷ 38854 ∷ 1568 ∷ 41168 ∷ 37568 ∷ 4930 ∷ 12 ∷
+    (34288 ∷ 32328 ∷ 27528 ∷ 15414 ∷ 1048 ∷ 24928 ∷ 28408 ∷ 3450 ∷ 12 ∷ []) ∷
+    (34288 ∷ 32328 ∷ 27528 ∷ 15414 ∷ 43169 ∷ 24928 ∷ 28408 ∷ 3450 ∷ 40453 ∷ []) ∷
+    (34288 ∷ 32328 ∷ 27528 ∷ 15414 ∷ 46127 ∷ 24928 ∷ 28408 ∷ 3450 ∷ 41051 ∷ []) ∷
     []
 
-abbrev pub ordinalTensBases : List ℕ
+abbrev pub ordinalTensBases : List (List ℕ)
 ordinalTensBases =
-    770 ∷ 7974 ∷ 22294 ∷ 35414 ∷ 1578 ∷ 3978 ∷ 656 ∷ 580 ∷ 8778 ∷
+    (1210 ∷ 5214 ∷ 25374 ∷ 33614 ∷ 1058 ∷ 2978 ∷ 30576 ∷ 30500 ∷ 6018 ∷ []) ∷
+    (1210 ∷ 5214 ∷ 25374 ∷ 33614 ∷ 43179 ∷ 2978 ∷ 30576 ∷ 30500 ∷ 50179 ∷ []) ∷
+    (1210 ∷ 5214 ∷ 25374 ∷ 33614 ∷ 46137 ∷ 2978 ∷ 30576 ∷ 30500 ∷ 52777 ∷ []) ∷
     []
 
 abbrev pub hundredBase : ℕ
 hundredBase =
-    9446
+    6686
 
 abbrev pub adjectiveHardFlexionsSingular : List (List ℕ)
 adjectiveHardFlexionsSingular =
-    (43164 ∷ 23526 ∷ 17366 ∷ 43164 ∷ 18044 ∷ 17366 ∷ []) ∷
-    (322 ∷ 18444 ∷ 23724 ∷ 17442 ∷ 18244 ∷ 23724 ∷ []) ∷
-    (42 ∷ 23526 ∷ 17366 ∷ 42 ∷ 18044 ∷ 17366 ∷ []) ∷
+    (21724 ∷ 22486 ∷ 28486 ∷ 21724 ∷ 20524 ∷ 28486 ∷ []) ∷
+    (322 ∷ 30244 ∷ 8804 ∷ 18802 ∷ 12684 ∷ 8804 ∷ []) ∷
+    (42 ∷ 22486 ∷ 28486 ∷ 42 ∷ 20524 ∷ 28486 ∷ []) ∷
     []
 
 abbrev pub adjectiveHardFlexionsPlural : List ℕ
 adjectiveHardFlexionsPlural =
-    602 ∷ 46364 ∷ 18044 ∷ 46364 ∷ 43086 ∷ 46364 ∷
+    3002 ∷ 37404 ∷ 20524 ∷ 37404 ∷ 20526 ∷ 37404 ∷
     []
 
 abbrev pub adjectiveSoftFlexionsSingular : List (List ℕ)
 adjectiveSoftFlexionsSingular =
-    (23724 ∷ 34368 ∷ 37608 ∷ 23724 ∷ 684 ∷ 37608 ∷ []) ∷
-    (162 ∷ 46686 ∷ 23724 ∷ 18282 ∷ 34766 ∷ 23724 ∷ []) ∷
-    (36522 ∷ 34368 ∷ 37608 ∷ 36522 ∷ 684 ∷ 37608 ∷ []) ∷
+    (8804 ∷ 22448 ∷ 28448 ∷ 8804 ∷ 21364 ∷ 28448 ∷ []) ∷
+    (162 ∷ 38326 ∷ 8804 ∷ 12722 ∷ 19566 ∷ 8804 ∷ []) ∷
+    (20642 ∷ 22448 ∷ 28448 ∷ 20642 ∷ 21364 ∷ 28448 ∷ []) ∷
     []
 
 abbrev pub adjectiveSoftFlexionsPlural : List ℕ
 adjectiveSoftFlexionsPlural =
-    602 ∷ 40844 ∷ 684 ∷ 40844 ∷ 46286 ∷ 40844 ∷
+    3002 ∷ 29804 ∷ 21364 ∷ 29804 ∷ 37326 ∷ 29804 ∷
     []
 
 abbrev pub year : List (List ℕ)
 year =
-    (43846 ∷ 40928 ∷ 40928 ∷ 43846 ∷ 41890 ∷ 34048 ∷ []) ∷
-    (42968 ∷ 33530 ∷ 32650 ∷ 42968 ∷ 32652 ∷ 33330 ∷ []) ∷
+    (29486 ∷ 31008 ∷ 31008 ∷ 29486 ∷ 17570 ∷ 18608 ∷ []) ∷
+    (18448 ∷ 30330 ∷ 16890 ∷ 18448 ∷ 16892 ∷ 35610 ∷ []) ∷
     []
 
 abbrev pub adjectiveN : ℕ
 adjectiveN =
-    1322
+    802
 
 abbrev pub beforeEra : ℕ
 beforeEra =
-    26964
+    33164
 
 abbrev pub ourEra : ℕ
 ourEra =
-    38126
+    28886
 
 abbrev pub ordinalHardFlexionsSingularShort : List (List ℕ)
 ordinalHardFlexionsSingularShort =

@@ -7,6 +7,7 @@ use lib.ListN.{getD}
 use Rattle.base.specs.Utf8.{utf8, form1, form2}
 use Rattle.words.specs.Part.{part}
 use Rattle.words.proofs.Tables.{at1, at2}
+use Rattle.uk.specs.Apostrophes.{byApostrophe1}
 use Rattle.uk.specs.Pool.{ukPool}
 use Rattle.uk_ordinal.specs.Pool.{shortPool}
 use Rattle.uk_ordinal.specs.OrdinalTables as words
@@ -36,13 +37,13 @@ pub era-at : part ukPool places.ourEra ≡ utf8 "н.е."
 unfolding part ukPool
 era-at = refl
 
-pub unit-at : (i : ℕ) → part ukPool (getD places.ordinalUnitBases i 0) ≡ form1 words.ordinalUnitBases i
-unfolding part ukPool words.ordinalUnitBases
-unit-at = at1 ukPool places.ordinalUnitBases words.ordinalUnitBases refl
+pub unit-at : (a i : ℕ) → part ukPool (getD (getD places.ordinalUnitBases a []) i 0) ≡ form2 (byApostrophe1 words.ordinalUnitBases) a i
+unfolding part ukPool byApostrophe1 words.ordinalUnitBases
+unit-at = at2 ukPool places.ordinalUnitBases (byApostrophe1 words.ordinalUnitBases) refl
 
-pub ten-at : (i : ℕ) → part ukPool (getD places.ordinalTensBases i 0) ≡ form1 words.ordinalTensBases i
-unfolding part ukPool words.ordinalTensBases
-ten-at = at1 ukPool places.ordinalTensBases words.ordinalTensBases refl
+pub ten-at : (a i : ℕ) → part ukPool (getD (getD places.ordinalTensBases a []) i 0) ≡ form2 (byApostrophe1 words.ordinalTensBases) a i
+unfolding part ukPool byApostrophe1 words.ordinalTensBases
+ten-at = at2 ukPool places.ordinalTensBases (byApostrophe1 words.ordinalTensBases) refl
 
 pub hard-at : (i j : ℕ) → part ukPool (getD (getD places.adjectiveHardFlexionsSingular i []) j 0) ≡ form2 words.adjectiveHardFlexionsSingular i j
 unfolding part ukPool words.adjectiveHardFlexionsSingular

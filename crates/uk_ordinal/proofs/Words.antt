@@ -20,6 +20,7 @@ use Rattle.figures.proofs.Laws.Digits.{digit-low, digits-head, digits-tail}
 use Rattle.cardinals.specs.Cardinal.{groupAt, groupsBelow}
 use Rattle.cardinals.proofs.Words.{groups-solid}
 use Rattle.uk.specs.UkTables.{megaBases}
+use Rattle.uk.specs.Apostrophes.{byApostrophe1}
 use Rattle.uk.specs.Rules.{opt}
 use Rattle.uk.specs.Ukrainian.{ukrainianDigits, ukrainianOrders, ukrainian}
 use Rattle.uk.proofs.Words.{teen-solid, mega-solid, SolidDigits, digits-solid, opt-solid, num-solid, ukrainian-solid}
@@ -29,13 +30,13 @@ use Rattle.uk_ordinal.specs.DigitOrdinal.{shortSingular, shortFlexion, d
 use Rattle.uk_ordinal.specs.Year.{early, eraWords, yearNoun, yearWords}
 
 -- the texts of the tables
-unit-solid : (i : ℕ) → i < 9 → Solid (form1 words.ordinalUnitBases i)
-unfolding form1 words.ordinalUnitBases
-unit-solid = at1 9 words.ordinalUnitBases refl
+unit-solid : (a i : ℕ) → a < 3 → i < 9 → Solid (form2 (byApostrophe1 words.ordinalUnitBases) a i)
+unfolding form2 byApostrophe1 words.ordinalUnitBases
+unit-solid = at2 3 9 (byApostrophe1 words.ordinalUnitBases) refl
 
-ten-solid : (i : ℕ) → i < 9 → Solid (form1 words.ordinalTensBases i)
-unfolding form1 words.ordinalTensBases
-ten-solid = at1 9 words.ordinalTensBases refl
+ten-solid : (a i : ℕ) → a < 3 → i < 9 → Solid (form2 (byApostrophe1 words.ordinalTensBases) a i)
+unfolding form2 byApostrophe1 words.ordinalTensBases
+ten-solid = at2 3 9 (byApostrophe1 words.ordinalTensBases) refl
 
 hard-ending : (i j : ℕ) → i < 3 → j < 6 → Trails (form2 words.adjectiveHardFlexionsSingular i j)
 unfolding form2 words.adjectiveHardFlexionsSingular
@@ -103,10 +104,10 @@ module _ (S : Settings) (w : Within (ukrainianRanges S)) where
 
   -- the words before the one with the ending
   nominative : Within (ukrainianRanges (inNominative S))
-  nominative = (omega arith, (w .1 .0, (omega arith, tt)))
+  nominative = (omega arith, (w .1 .0, (omega arith, w .1 .1 .1)))
 
   genitive : Within (ukrainianRanges (inGenitive S))
-  genitive = (omega arith, (w .1 .0, (omega arith, tt)))
+  genitive = (omega arith, (w .1 .0, (omega arith, w .1 .1 .1)))
 
   compound-digits : SolidDigits (compoundDigits S)
   unfolding compoundDigits ukrainianDigits words.oneBase
@@ -124,12 +125,12 @@ module _ (S : Settings) (w : Within (ukrainianRanges S)) where
 
     tail-solid : (t u : ℕ) → t < 10 → u < 10 → (t ≡ 0 → u ≡ 0 → ⊥) → SomeSolid (tailWords S ending t u)
     tail-solid t u a b n =
-        either SomeSolid (eqb t 1) (λ e. one-solid (followed (teen-solid u b) p))
+        either SomeSolid (eqb t 1) (λ e. one-solid (followed (teen-solid (S .apostrophe) u (w .1 .1 .1 .0) b) p))
         (λ e. either SomeSolid (eqb u 0)
-        (λ f. one-solid (followed (ten-solid (t - 1) (omega arith)) p))
-        (λ f. some-append (opt (ukrainianDigits (inNominative S) .ten) t) ((form1 words.ordinalUnitBases (u - 1) ++ ending) ∷ [])
+        (λ f. one-solid (followed (ten-solid (S .apostrophe) (t - 1) (w .1 .1 .1 .0) (omega arith)) p))
+        (λ f. some-append (opt (ukrainianDigits (inNominative S) .ten) t) ((form2 (byApostrophe1 words.ordinalUnitBases) (S .apostrophe) (u - 1) ++ ending) ∷ [])
         (opt-solid (ukrainianDigits (inNominative S) .ten) t (λ h. digits-solid (inNominative S) nominative .ten t (omega (arith, eqb-false t 1 e)) a))
-        (one-solid (followed (unit-solid (u - 1) (omega arith)) p))))
+        (one-solid (followed (unit-solid (S .apostrophe) (u - 1) (w .1 .1 .1 .0) (omega arith)) p))))
 
     plain-solid : (g : ℕ) → SomeSolid (plainWords S ending g)
     unfolding plainWords words.hundredBase

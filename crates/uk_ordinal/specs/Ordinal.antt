@@ -10,6 +10,7 @@ use Rattle.settings.specs.Settings.{masculine, singular, nominative, genitive, 
 use Rattle.settings.specs.declared.Settings.{Settings}
 use Rattle.cardinals.specs.Cardinal.{groupAt, groupsBelow}
 use Rattle.uk.specs.UkTables.{teensBases, megaBases}
+use Rattle.uk.specs.Apostrophes.{byApostrophe1}
 use Rattle.uk.specs.Rules.{DigitWords, opt, numWords}
 use Rattle.uk.specs.Ukrainian.{unitForm, ukrainianDigits, ukrainianOrders, ukrainian}
 use Rattle.uk_ordinal.specs.OrdinalTables.{ordinalZeroBase, oneBase, ordinalUnitBases, ordinalTensBases, hundredBase, adjectiveHardFlexionsSingular, adjectiveHardFlexionsPlural, adjectiveSoftFlexionsSingular, adjectiveSoftFlexionsPlural}
@@ -52,9 +53,9 @@ compoundWord S ending rest order g = flatten (compoundWords S rest g ++ (form1 m
 -- and a base of `ORDINAL_UNIT_BASES`, with the ending on the last"
 abbrev pub tailWords : Settings → Word → ℕ → ℕ → List Word
 tailWords S ending t u =
-    cond (eqb t 1) ((form1 teensBases u ++ ending) ∷ [])
-    (cond (eqb u 0) ((form1 ordinalTensBases (t - 1) ++ ending) ∷ [])
-    (opt (ukrainianDigits (inNominative S) .ten) t ++ ((form1 ordinalUnitBases (u - 1) ++ ending) ∷ [])))
+    cond (eqb t 1) ((form2 (byApostrophe1 teensBases) (S .apostrophe) u ++ ending) ∷ [])
+    (cond (eqb u 0) ((form2 (byApostrophe1 ordinalTensBases) (S .apostrophe) (t - 1) ++ ending) ∷ [])
+    (opt (ukrainianDigits (inNominative S) .ten) t ++ ((form2 (byApostrophe1 ordinalUnitBases) (S .apostrophe) (u - 1) ++ ending) ∷ [])))
 
 -- the lowest group g at order 0: "a group ending in 00 writes only `HUNDRED_BASE` and ending; any other writes the nominative hundred word if any",
 -- then tens and units

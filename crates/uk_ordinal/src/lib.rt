@@ -13,9 +13,10 @@ ghost use mathlib.Core.Bool.{true, false};
 ghost use Prim.Native.Nat.{_-_, _≤_, _<_};
 ghost use lib.ListN.{length};
 ghost use Rattle.base.specs.Buffer.{over};
-ghost use Rattle.base.specs.Utf8.{utf8, form1};
+ghost use Rattle.base.specs.Utf8.{utf8, form2};
 ghost use Rattle.words.specs.Part.{part};
 ghost use Rattle.settings.specs.Settings.{ukrainianRanges, Within};
+ghost use Rattle.uk.specs.Apostrophes.{byApostrophe1};
 ghost use Rattle.uk.specs.Pool.{ukPool};
 ghost use Rattle.uk_ordinal.specs.Pool.{shortPool};
 ghost use Rattle.uk_ordinal.specs.OrdinalTables.{ordinalZeroBase, oneBase, hundredBase, ordinalUnitBases, ordinalTensBases};
@@ -175,17 +176,19 @@ pub fn year_word(settings: Settings) -> u16
 }
 
 // The base of a unit.
-pub fn unit_base(u: usize) -> u16
-    requires { ⌜ (0 < u) × (u < 10) ⌝ }
-    ensures { λ r. ⌜ part ukPool r ≡ form1 ordinalUnitBases (u - 1) ⌝ }
+pub fn unit_base(settings: Settings, u: usize) -> u16
+    requires { ⌜ Within (ukrainianRanges settings) × (0 < u) × (u < 10) ⌝ }
+    ensures { λ r. ⌜ part ukPool r ≡ form2 (byApostrophe1 ordinalUnitBases) (settings .apostrophe) (u - 1) ⌝ }
 {
-    places::ORDINAL_UNIT_BASES[u - 1]
+    let apostrophe = settings.apostrophe as usize;
+    places::ORDINAL_UNIT_BASES[apostrophe][u - 1]
 }
 
 // The base of tens from 20 on.
-pub fn ten_base(t: usize) -> u16
-    requires { ⌜ (1 < t) × (t < 10) ⌝ }
-    ensures { λ r. ⌜ part ukPool r ≡ form1 ordinalTensBases (t - 1) ⌝ }
+pub fn ten_base(settings: Settings, t: usize) -> u16
+    requires { ⌜ Within (ukrainianRanges settings) × (1 < t) × (t < 10) ⌝ }
+    ensures { λ r. ⌜ part ukPool r ≡ form2 (byApostrophe1 ordinalTensBases) (settings .apostrophe) (t - 1) ⌝ }
 {
-    places::ORDINAL_TENS_BASES[t - 1]
+    let apostrophe = settings.apostrophe as usize;
+    places::ORDINAL_TENS_BASES[apostrophe][t - 1]
 }

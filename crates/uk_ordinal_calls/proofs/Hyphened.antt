@@ -6,18 +6,14 @@ use mathlib.Core.Bool.{Bool}
 use mathlib.Core.List.{List, [], _∷_, _++_, append-assoc}
 use native.Mathlib.Numerals.{add-one}
 use native.Mathlib.Omega.{arith}
-use lib.ListN.{length, take, drop, set, length-append}
-use lib.Seq.{drop-cons, set-append-seam, take-length}
+use lib.ListN.{length, set, length-append}
+use lib.Seq.{drop-cons, set-append-seam}
 use Rattle.base.specs.Buffer.{over}
 use Rattle.settings.specs.declared.Settings.{Settings}
 use Rattle.figures.specs.Text.{value}
 use Rattle.uk_ordinal.specs.Ordinal.{soft}
 use Rattle.uk_ordinal.specs.DigitOrdinal.{shortFlexion, digitOrdinal}
 use Rattle.plan.proofs.Laws.{from, back, wrote}
-
--- what a copy of all of w leaves
-pub whole : (r : ℕ) (w xs ys : List ℕ) → (r ≡ length w) × (ys ≡ take (length w) w ++ drop (length w) xs) → (r ≡ length w) × (ys ≡ over xs w)
-whole r w xs ys g = rw (take-length w) at g
 
 -- how long they are
 pub size-is : (t w : List ℕ) → length (t ++ (45 ∷ w)) ≡ length t + suc (length w)
@@ -38,3 +34,6 @@ hyphened xs t w ys zs n l e h f =
 pub is-ordinal : (S : Settings) (text w : List ℕ) (s : Bool) → s ≡ soft (value text) → w ≡ shortFlexion S s → text ++ (45 ∷ w) ≡ digitOrdinal S text
 unfolding digitOrdinal
 is-ordinal S text w s e f = rw (f, e) refl
+
+pub ordinal-size : (S : Settings) (text w : List ℕ) (s : Bool) (n : ℕ) → s ≡ soft (value text) → w ≡ shortFlexion S s → n ≡ length w → length text + 1 + n ≡ length (digitOrdinal S text)
+ordinal-size S text w s n e f h = rw (← is-ordinal S text w s e f, size-is text w) (omega arith)

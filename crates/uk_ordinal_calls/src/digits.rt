@@ -37,14 +37,23 @@ fn is_soft(text: &[u8]) -> bool
 
 // Writes the digits, a hyphen and the ending at this place of their pool.
 fn put(text: &[u8], ending: u16, out: &mut [u8]) -> usize
-    requires { ⌜ length (now text ++ (45 ∷ part shortPool ending)) ≤ length (now out) ⌝ }
+    requires { ⌜ (length (now text) ≤ 39) × (length (now text ++ (45 ∷ part shortPool ending)) ≤ length (now out)) ⌝ }
     ensures { λ r. ⌜ (r ≡ length (now (text .entry) ++ (45 ∷ part shortPool ending))) × (now (out .exit) ≡ over (now (out .entry)) (now (text .entry) ++ (45 ∷ part shortPool ending))) ⌝ }
 {
-    let n = bytes::copy(text, out);
+    let n = words::copy(text, out);
     out[n] = b'-';
     let k = n + 1;
     let m = uk_ordinal::put_short(ending, &mut out[k..]);
     k + m
+}
+
+// The length of the digit ordinal of an admitted text.
+pub fn size(settings: Settings, text: &[u8]) -> usize
+    requires { ⌜ Within (ukrainianRanges settings) × (digits (now text) ≡ true) × (0 < length (now text)) × (length (now text) ≤ 39) ⌝ }
+    ensures { λ r. ⌜ r ≡ length (digitOrdinal settings (now (text .entry))) ⌝ }
+{
+    let ending = uk_ordinal::short_ending(settings, is_soft(text));
+    text.len() + 1 + uk_ordinal::short_len(ending)
 }
 
 // The digit ordinal of an admitted text, written where out holds it. It is measured first where out might not: no ending has 40 bytes.

@@ -3,7 +3,6 @@ mod digits; // digits.rt: digit ordinals
 
 use base::Answer;
 use base::Measure;
-use base::NO_ROOM;
 use base::WRONG_SETTING;
 use settings::Settings;
 use uk::DIGITS;
@@ -30,10 +29,10 @@ fn is_early(year: i64) -> bool
 }
 
 // The refusal of an ordinal's settings and text, 0 for none.
-fn refuse_ordinal(gender: u32, number: u32, case: u32, text: &[u8]) -> u32
-    ensures { λ r. ⌜ r ≡ ukToOrdinal (ukrainianSettings gender number case) (now (text .entry)) .refusal ⌝ }
+fn refuse_ordinal(gender: u32, number: u32, case: u32, apostrophe: u32, text: &[u8]) -> u32
+    ensures { λ r. ⌜ r ≡ ukToOrdinal (ukrainianSettings gender number case apostrophe) (now (text .entry)) .refusal ⌝ }
 {
-    if settings::is_ukrainian(gender, number, case) {
+    if settings::is_ukrainian(gender, number, case, apostrophe) {
         figures::refusals::number_of(figures::refusals::judge_ordinal(text, DIGITS))
     } else {
         WRONG_SETTING
@@ -41,10 +40,10 @@ fn refuse_ordinal(gender: u32, number: u32, case: u32, text: &[u8]) -> u32
 }
 
 // The refusal of a digit ordinal's settings and text, 0 for none.
-fn refuse_digit_ordinal(gender: u32, number: u32, case: u32, text: &[u8]) -> u32
-    ensures { λ r. ⌜ r ≡ ukToOrdinalNum (ukrainianSettings gender number case) (now (text .entry)) .refusal ⌝ }
+fn refuse_digit_ordinal(gender: u32, number: u32, case: u32, apostrophe: u32, text: &[u8]) -> u32
+    ensures { λ r. ⌜ r ≡ ukToOrdinalNum (ukrainianSettings gender number case apostrophe) (now (text .entry)) .refusal ⌝ }
 {
-    if settings::is_ukrainian(gender, number, case) {
+    if settings::is_ukrainian(gender, number, case, apostrophe) {
         figures::refusals::number_of(figures::refusals::judge_digit_ordinal(text))
     } else {
         WRONG_SETTING
@@ -100,74 +99,113 @@ fn year_measure(settings: Settings, year: i64) -> Measure
 }
 
 // The ordinal of a number text.
-pub fn to_ordinal(gender: u32, number: u32, case: u32, text: &[u8], out: &mut [u8]) -> Answer
-    ensures { λ r. ⌜ Answers r (now (out .entry)) (now (out .exit)) (replied (ukToOrdinal (ukrainianSettings gender number case) (now (text .entry))) (now (out .entry))) ⌝ }
+pub fn to_ordinal(
+    gender: u32,
+    number: u32,
+    case: u32,
+    apostrophe: u32,
+    text: &[u8],
+    out: &mut [u8],
+) -> Answer
+    ensures { λ r. ⌜ Answers r (now (out .entry)) (now (out .exit)) (replied (ukToOrdinal (ukrainianSettings gender number case apostrophe) (now (text .entry))) (now (out .entry))) ⌝ }
     ensures { λ r. ⌜ r .length ≤ phraseRoom ⌝ }
 {
-    let n = refuse_ordinal(gender, number, case, text);
+    let n = refuse_ordinal(gender, number, case, apostrophe, text);
     if n == 0 {
-        say_ordinal(settings::ukrainian(gender, number, case), text, out)
+        say_ordinal(
+            settings::ukrainian(gender, number, case, apostrophe),
+            text,
+            out,
+        )
     } else {
         base::refused(n)
     }
 }
 
 // What that phrase measures.
-pub fn measure_ordinal(gender: u32, number: u32, case: u32, text: &[u8]) -> Measure
-    ensures { λ r. ⌜ r ≡ measured (ukToOrdinal (ukrainianSettings gender number case) (now (text .entry))) ⌝ }
+pub fn measure_ordinal(gender: u32, number: u32, case: u32, apostrophe: u32, text: &[u8]) -> Measure
+    ensures { λ r. ⌜ r ≡ measured (ukToOrdinal (ukrainianSettings gender number case apostrophe) (now (text .entry))) ⌝ }
 {
-    let n = refuse_ordinal(gender, number, case, text);
+    let n = refuse_ordinal(gender, number, case, apostrophe, text);
     if n == 0 {
-        ordinal_measure(settings::ukrainian(gender, number, case), text)
+        ordinal_measure(settings::ukrainian(gender, number, case, apostrophe), text)
     } else {
         base::unmeasured(n)
     }
 }
 
 // The digit ordinal of a number text.
-pub fn to_ordinal_num(gender: u32, number: u32, case: u32, text: &[u8], out: &mut [u8]) -> Answer
-    ensures { λ r. ⌜ Answers r (now (out .entry)) (now (out .exit)) (replied (ukToOrdinalNum (ukrainianSettings gender number case) (now (text .entry))) (now (out .entry))) ⌝ }
+pub fn to_ordinal_num(
+    gender: u32,
+    number: u32,
+    case: u32,
+    apostrophe: u32,
+    text: &[u8],
+    out: &mut [u8],
+) -> Answer
+    ensures { λ r. ⌜ Answers r (now (out .entry)) (now (out .exit)) (replied (ukToOrdinalNum (ukrainianSettings gender number case apostrophe) (now (text .entry))) (now (out .entry))) ⌝ }
     ensures { λ r. ⌜ r .length ≤ phraseRoom ⌝ }
 {
-    let n = refuse_digit_ordinal(gender, number, case, text);
+    let n = refuse_digit_ordinal(gender, number, case, apostrophe, text);
     if n == 0 {
-        digits::say(settings::ukrainian(gender, number, case), text, out)
+        digits::say(
+            settings::ukrainian(gender, number, case, apostrophe),
+            text,
+            out,
+        )
     } else {
         base::refused(n)
     }
 }
 
-// What it measures: lent no room, the spelling call reports the length, and no digit, hyphen or ending is a space.
-pub fn measure_ordinal_num(gender: u32, number: u32, case: u32, text: &[u8]) -> Measure
-    ensures { λ r. ⌜ r ≡ measured (ukToOrdinalNum (ukrainianSettings gender number case) (now (text .entry))) ⌝ }
+// What it measures: no digit, hyphen or ending is a space.
+pub fn measure_ordinal_num(
+    gender: u32,
+    number: u32,
+    case: u32,
+    apostrophe: u32,
+    text: &[u8],
+) -> Measure
+    ensures { λ r. ⌜ r ≡ measured (ukToOrdinalNum (ukrainianSettings gender number case apostrophe) (now (text .entry))) ⌝ }
 {
-    let mut byte = [0u8; 1];
-    let answer = to_ordinal_num(gender, number, case, text, &mut byte[..0]);
-    if answer.number == NO_ROOM {
-        base::measure_of(0, answer.length)
+    let n = refuse_digit_ordinal(gender, number, case, apostrophe, text);
+    if n == 0 {
+        let size = digits::size(settings::ukrainian(gender, number, case, apostrophe), text);
+        base::measure_of(0, size)
     } else {
-        base::unmeasured(answer.number)
+        base::unmeasured(n)
     }
 }
 
 // The phrase of a year.
-pub fn to_year(gender: u32, number: u32, case: u32, year: i64, out: &mut [u8]) -> Answer
-    ensures { λ r. ⌜ Answers r (now (out .entry)) (now (out .exit)) (replied (ukToYear (ukrainianSettings gender number case) year) (now (out .entry))) ⌝ }
+pub fn to_year(
+    gender: u32,
+    number: u32,
+    case: u32,
+    apostrophe: u32,
+    year: i64,
+    out: &mut [u8],
+) -> Answer
+    ensures { λ r. ⌜ Answers r (now (out .entry)) (now (out .exit)) (replied (ukToYear (ukrainianSettings gender number case apostrophe) year) (now (out .entry))) ⌝ }
     ensures { λ r. ⌜ r .length ≤ phraseRoom ⌝ }
 {
-    if settings::is_ukrainian(gender, number, case) {
-        say_year(settings::ukrainian(gender, number, case), year, out)
+    if settings::is_ukrainian(gender, number, case, apostrophe) {
+        say_year(
+            settings::ukrainian(gender, number, case, apostrophe),
+            year,
+            out,
+        )
     } else {
         base::refused(WRONG_SETTING)
     }
 }
 
 // What it measures.
-pub fn measure_year(gender: u32, number: u32, case: u32, year: i64) -> Measure
-    ensures { λ r. ⌜ r ≡ measured (ukToYear (ukrainianSettings gender number case) year) ⌝ }
+pub fn measure_year(gender: u32, number: u32, case: u32, apostrophe: u32, year: i64) -> Measure
+    ensures { λ r. ⌜ r ≡ measured (ukToYear (ukrainianSettings gender number case apostrophe) year) ⌝ }
 {
-    if settings::is_ukrainian(gender, number, case) {
-        year_measure(settings::ukrainian(gender, number, case), year)
+    if settings::is_ukrainian(gender, number, case, apostrophe) {
+        year_measure(settings::ukrainian(gender, number, case, apostrophe), year)
     } else {
         base::unmeasured(WRONG_SETTING)
     }

@@ -8,9 +8,10 @@ use native.Mathlib.Omega.{arith}
 use borrow.Author.Tests.{eq-eqb, ne-eqb}
 use lib.Dec.{eqb}
 use Rattle.base.specs.Join.{Word}
-use Rattle.base.specs.Utf8.{utf8, form1}
+use Rattle.base.specs.Utf8.{utf8, form1, form2}
 use Rattle.settings.specs.declared.Settings.{Settings}
 use Rattle.uk.specs.UkTables.{megaBases}
+use Rattle.uk.specs.Apostrophes.{byApostrophe1}
 use Rattle.uk.specs.Rules.{DigitWords, opt, lowWords, numWords}
 use Rattle.uk.specs.Ukrainian.{unitForm, ukrainianDigits}
 use Rattle.uk_ordinal.specs.OrdinalTables.{hundredBase, ordinalUnitBases, ordinalTensBases}
@@ -55,11 +56,11 @@ module _ (S : Settings) where
   counted-word e rest k g h = rw h refl
 
   -- tens and units at order 0
-  pub tail-ten : (e : Word) (t u : ℕ) → (t ≡ 1 → ⊥) → u ≡ 0 → (form1 ordinalTensBases (t - 1) ++ e) ∷ [] ≡ tailWords S e t u
+  pub tail-ten : (e : Word) (t u : ℕ) → (t ≡ 1 → ⊥) → u ≡ 0 → (form2 (byApostrophe1 ordinalTensBases) (S .apostrophe) (t - 1) ++ e) ∷ [] ≡ tailWords S e t u
   tail-ten e t u n z = rw (ne-eqb t 1 n, eq-eqb u 0 z) refl
 
   pub tail-unit : (e : Word) (t u : ℕ) → (t ≡ 1 → ⊥) → (u ≡ 0 → ⊥)
-      → opt (ukrainianDigits (inNominative S) .ten) t ++ ((form1 ordinalUnitBases (u - 1) ++ e) ∷ []) ≡ tailWords S e t u
+      → opt (ukrainianDigits (inNominative S) .ten) t ++ ((form2 (byApostrophe1 ordinalUnitBases) (S .apostrophe) (u - 1) ++ e) ∷ []) ≡ tailWords S e t u
   tail-unit e t u n z = rw (ne-eqb t 1 n, ne-eqb u 0 z) refl
 
   -- the group at order 0

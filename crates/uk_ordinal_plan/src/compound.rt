@@ -53,7 +53,7 @@ fn count_low(
         return count_unit(settings, u, separator, plan, at);
     }
     if t == 1 {
-        let k = push(plan, at, separator, uk::teen(u));
+        let k = push(plan, at, separator, uk::teen(settings, u));
         return push(
             plan,
             k,

@@ -47,15 +47,15 @@ fn tail_words(
     ensures { λ r. ⌜ Told ukPool 3 (now (plan .entry)) at (now (plan .exit)) r (tailWords settings (part ukPool ending) t u) ⌝ }
 {
     if t == 1 {
-        let a = push(plan, at, SPACE, uk::teen(u));
+        let a = push(plan, at, SPACE, uk::teen(settings, u));
         return push(plan, a, ON, ending);
     }
     if u == 0 {
-        let a = push(plan, at, SPACE, uk_ordinal::ten_base(t));
+        let a = push(plan, at, SPACE, uk_ordinal::ten_base(settings, t));
         return push(plan, a, ON, ending);
     }
     let a = ten_word(settings, t, plan, at);
-    let b = push(plan, a, SPACE, uk_ordinal::unit_base(u));
+    let b = push(plan, a, SPACE, uk_ordinal::unit_base(settings, u));
     push(plan, b, ON, ending)
 }
 

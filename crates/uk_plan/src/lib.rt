@@ -58,7 +58,7 @@ fn low_words(settings: Settings, t: usize, u: usize, plan: &mut [u32], at: usize
         return unit_word(settings, u, plan, at);
     }
     if t == 1 {
-        let k = push(plan, at, SPACE, uk::teen(u));
+        let k = push(plan, at, SPACE, uk::teen(settings, u));
         return push(plan, k, ON, uk::teen_ending(settings));
     }
     let k = push(plan, at, SPACE, uk::ten(settings, t));

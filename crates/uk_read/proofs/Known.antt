@@ -1,4 +1,4 @@
--- Every Ukrainian number word means one thing, whatever the case and the gender: one computed test over all words of all settings.
+-- Every Ukrainian number word means one thing, whatever the case, the gender and the apostrophe: one computed test over all words of all settings.
 -- Assumes nothing.
 use Prim.Native.Nat.{ℕ, _+_, _-_, _*_, _<_}
 use mathlib.Core.Path.{_≡_, refl}
@@ -17,6 +17,7 @@ use Rattle.uk_meanings.specs.Meanings.{shifts, table, meaningOf}
 use Rattle.settings.specs.Settings.{ukrainianSettings, ukrainianRanges, Within}
 use Rattle.settings.specs.declared.Settings.{Settings}
 use Rattle.uk.specs.UkTables.{zeros, gendered, units, teensBases, teensFlexions, tens, hundreds, thousandFlexions, megaBases, megaFlexions}
+use Rattle.uk.specs.Apostrophes.{byApostrophe1, byApostrophe2}
 use Rattle.uk.specs.Rules.{DigitWords}
 use Rattle.uk.specs.Ukrainian.{atOrder, unitForm, teenForm, ukrainianDigits, agreed, scaleEnding, scaleNoun, ukrainian}
 use Rattle.uk.proofs.Laws.{ordered, agrees}
@@ -37,19 +38,20 @@ knows w v t = record { means = eqb-true (mean w) v (and-left (eqb (mean w) v) (i
 
 -- a scale noun by order, grammatical number and case
 scale : ℕ → ℕ → ℕ → Word
-scale k n c = form1 megaBases (k - 1) ++ scaleEnding (ukrainianSettings 0 n c) k
+scale k n c = form1 megaBases (k - 1) ++ scaleEnding (ukrainianSettings 0 n c 0) k
 
-abbrev hundreds? : ℕ → Bool
-hundreds? c = all 1 9 (λ h. known? (form2 hundreds (h - 1) c) (100 * h))
+-- the words of digits by apostrophe and case
+abbrev hundreds? : ℕ → ℕ → Bool
+hundreds? a c = all 1 9 (λ h. known? (form3 (byApostrophe2 hundreds) a (h - 1) c) (100 * h))
 
-abbrev tens? : ℕ → Bool
-tens? c = all 2 8 (λ t. known? (form2 tens (t - 2) c) (10 * t))
+abbrev tens? : ℕ → ℕ → Bool
+tens? a c = all 2 8 (λ t. known? (form3 (byApostrophe2 tens) a (t - 2) c) (10 * t))
 
-abbrev teens? : ℕ → Bool
-teens? c = all 10 10 (λ v. known? (teenForm (ukrainianSettings 0 0 c) v) v)
+abbrev teens? : ℕ → ℕ → Bool
+teens? a c = all 10 10 (λ v. known? (teenForm (ukrainianSettings 0 0 c a) v) v)
 
-abbrev units? : ℕ → Bool
-units? c = all 0 3 (λ g. all 1 9 (λ u. known? (unitForm (ukrainianSettings g 0 c) u) u))
+abbrev units? : ℕ → ℕ → Bool
+units? a c = all 0 3 (λ g. all 1 9 (λ u. known? (unitForm (ukrainianSettings g 0 c a) u) u))
 
 abbrev scales? : ℕ → Bool
 scales? c = all 0 2 (λ n. all 1 21 (λ k. known? (scale k n c) (1000 + k)))
@@ -60,9 +62,12 @@ zeros? c = known? (form1 zeros c) 1000
 abbrev cases : (ℕ → Bool) → Bool
 cases f = all 0 6 f
 
-passes : (cases hundreds? ≡ true) × (cases tens? ≡ true) × (cases teens? ≡ true) × (cases units? ≡ true) × (cases scales? ≡ true) × (cases zeros? ≡ true)
+abbrev signs : (ℕ → ℕ → Bool) → Bool
+signs f = all 0 3 (λ a. cases (f a))
+
+passes : (signs hundreds? ≡ true) × (signs tens? ≡ true) × (signs teens? ≡ true) × (signs units? ≡ true) × (cases scales? ≡ true) × (cases zeros? ≡ true)
     × (known? (utf8 "мінус") 2001 ≡ true)
-unfolding known? scale unitForm teenForm scaleEnding form1 form2 form3 zeros gendered units teensBases teensFlexions tens hundreds thousandFlexions megaBases megaFlexions
+unfolding known? scale unitForm teenForm scaleEnding form1 form2 form3 byApostrophe1 byApostrophe2 zeros gendered units teensBases teensFlexions tens hundreds thousandFlexions megaBases megaFlexions
 passes = (refl, refl, refl, refl, refl, refl, refl)
 
 -- what every word of digits means
@@ -82,18 +87,25 @@ pub record Lawful (S : Settings) : Type 0 where
 at : (f : ℕ → Bool) → cases f ≡ true → (c : ℕ) → c < 6 → f c ≡ true
 at f t c h = all-at 0 6 f t c (omega arith) h
 
+sign-at : (f : ℕ → ℕ → Bool) → signs f ≡ true → (a c : ℕ) → a < 3 → c < 6 → f a c ≡ true
+sign-at f t a c p h = at (f a) (all-at 0 3 (λ a. cases (f a)) t a (omega arith) p) c h
+
 counting : (S : Settings) → Within (ukrainianRanges S) → Counting (ukrainianDigits S)
 unfolding ukrainianDigits unitForm teenForm
 counting S w =
+    let p = S .apostrophe in
+    let q = w .1 .1 .1 .0 in
     let c = S .case in
     let h = w .1 .1 .0 in
+    let hundred : ℕ → Word = λ d. form3 (byApostrophe2 hundreds) p (d - 1) c in
+    let ten : ℕ → Word = λ t. form3 (byApostrophe2 tens) p (t - 2) c in
     record {
-      hundred = λ d a b. knows (form2 hundreds (d - 1) c) (100 * d) (all-at 1 9 (λ d. known? (form2 hundreds (d - 1) c) (100 * d)) (at hundreds? (passes .0) c h) d a (omega arith));
-      ten = λ t a b. knows (form2 tens (t - 2) c) (10 * t) (all-at 2 8 (λ t. known? (form2 tens (t - 2) c) (10 * t)) (at tens? (passes .1) c h) t a (omega arith));
-      teen = λ v a b. knows (teenForm S v) v (all-at 10 10 (λ v. known? (teenForm S v) v) (at teens? (passes .2) c h) v a (omega arith));
+      hundred = λ d a b. knows (hundred d) (100 * d) (all-at 1 9 (λ d. known? (hundred d) (100 * d)) (sign-at hundreds? (passes .0) p c q h) d a (omega arith));
+      ten = λ t a b. knows (ten t) (10 * t) (all-at 2 8 (λ t. known? (ten t) (10 * t)) (sign-at tens? (passes .1) p c q h) t a (omega arith));
+      teen = λ v a b. knows (teenForm S v) v (all-at 10 10 (λ v. known? (teenForm S v) v) (sign-at teens? (passes .2) p c q h) v a (omega arith));
       unit = λ u a b. knows (unitForm S u) u
           (all-at 1 9 (λ u. known? (unitForm S u) u)
-          (all-at 0 3 (λ g. all 1 9 (λ u. known? (unitForm (ukrainianSettings g 0 c) u) u)) (at units? (passes .3) c h) (S .gender) (omega arith) (w .0)) u a (omega arith));
+          (all-at 0 3 (λ g. all 1 9 (λ u. known? (unitForm (ukrainianSettings g 0 c p) u) u)) (sign-at units? (passes .3) p c q h) (S .gender) (omega arith) (w .0)) u a (omega arith));
     }
 
 -- a scale noun by the settings in which it agrees

@@ -97,12 +97,11 @@ fn put_long(w: &[u8], out: &mut [u8])
     move8(w, last, out);
 }
 
-// Writes the text at a place over the front of out.
-pub fn put(pool: &[u8], place: u32, out: &mut [u8]) -> usize
-    requires { ⌜ length (partOf (now pool) place) ≤ length (now out) ⌝ }
-    ensures { λ r. ⌜ (r ≡ length (partOf (now (pool .entry)) place)) × (now (out .exit) ≡ over (now (out .entry)) (partOf (now (pool .entry)) place)) ⌝ }
+// Writes a text of at most 40 bytes over the front of out.
+pub fn copy(w: &[u8], out: &mut [u8]) -> usize
+    requires { ⌜ (length (now w) ≤ 40) × (length (now w) ≤ length (now out)) ⌝ }
+    ensures { λ r. ⌜ (r ≡ length (now (w .entry))) × (now (out .exit) ≡ over (now (out .entry)) (now (w .entry))) ⌝ }
 {
-    let w = part(pool, place);
     let n = w.len();
     if n < 8 {
         put_short(w, out);
@@ -110,6 +109,14 @@ pub fn put(pool: &[u8], place: u32, out: &mut [u8]) -> usize
     }
     put_long(w, out);
     n
+}
+
+// Writes the text at a place over the front of out.
+pub fn put(pool: &[u8], place: u32, out: &mut [u8]) -> usize
+    requires { ⌜ length (partOf (now pool) place) ≤ length (now out) ⌝ }
+    ensures { λ r. ⌜ (r ≡ length (partOf (now (pool .entry)) place)) × (now (out .exit) ≡ over (now (out .entry)) (partOf (now (pool .entry)) place)) ⌝ }
+{
+    copy(part(pool, place), out)
 }
 
 // Whether s, which is no shorter, begins with a text of fewer than 8 bytes.

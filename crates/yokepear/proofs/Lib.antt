@@ -1,4 +1,5 @@
 pub mod Demand3
 pub mod Numbers
 pub mod Words
+pub mod Apostrophes
 pub mod Measuring

@@ -43,11 +43,11 @@ module _ (P : ℕ → Type 0) (none-is : P 0) (setting-is : P wrongSetting) (cod
   unknown-is (some c) = code-is
 
   refusal-is : P malformed → P wrongSign → P tooLarge → (call : SpellingCall) → P (spellingOf call .refusal)
-  refusal-is text sign size (toCardinal gender number case t) = settings-then (ukrainianRanges (ukrainianSettings gender number case)) (cardinalRefusals ukrainianDigitLimit t) (text, (size, tt))
-  refusal-is text sign size (toOrdinal gender number case t) = settings-then (ukrainianRanges (ukrainianSettings gender number case)) (ordinalRefusals ukrainianDigitLimit t) (text, (sign, (size, tt)))
-  refusal-is text sign size (toOrdinalNum gender number case t) = settings-then (ukrainianRanges (ukrainianSettings gender number case)) (digitOrdinalRefusals t) (text, (sign, (size, tt)))
-  refusal-is text sign size (toYear gender number case y) = settings-then (ukrainianRanges (ukrainianSettings gender number case)) [] tt
-  refusal-is text sign size (toCurrency gender number case code t) = settings-then (ukrainianRanges (ukrainianSettings gender number case)) (unknown (currencyOf code) ∷ amountRefusals t) (unknown-is (currencyOf code), (text, (sign, (size, tt))))
+  refusal-is text sign size (toCardinal gender number case apostrophe t) = settings-then (ukrainianRanges (ukrainianSettings gender number case apostrophe)) (cardinalRefusals ukrainianDigitLimit t) (text, (size, tt))
+  refusal-is text sign size (toOrdinal gender number case apostrophe t) = settings-then (ukrainianRanges (ukrainianSettings gender number case apostrophe)) (ordinalRefusals ukrainianDigitLimit t) (text, (sign, (size, tt)))
+  refusal-is text sign size (toOrdinalNum gender number case apostrophe t) = settings-then (ukrainianRanges (ukrainianSettings gender number case apostrophe)) (digitOrdinalRefusals t) (text, (sign, (size, tt)))
+  refusal-is text sign size (toYear gender number case apostrophe y) = settings-then (ukrainianRanges (ukrainianSettings gender number case apostrophe)) [] tt
+  refusal-is text sign size (toCurrency gender number case apostrophe code t) = settings-then (ukrainianRanges (ukrainianSettings gender number case apostrophe)) (unknown (currencyOf code) ∷ amountRefusals t) (unknown-is (currencyOf code), (text, (sign, (size, tt))))
   refusal-is text sign size (toFrenchCardinal feminine reformed region t) = settings-then (frenchRanges (frenchSettings feminine reformed region)) (cardinalRefusals frenchDigitLimit t) (text, (size, tt))
   refusal-is text sign size (toFrenchOrdinal feminine reformed region t) = settings-then (frenchRanges (frenchSettings feminine reformed region)) (ordinalRefusals frenchDigitLimit t) (text, (sign, (size, tt)))
 
@@ -70,8 +70,8 @@ module _ (P : ℕ → Type 0) (none-is : P 0) (setting-is : P wrongSetting) (cod
     reading-is six call {s} {xs} (earlier f) = go call
       where
         go : (call : ReadingCall) → P (readingOf call .refusal)
-        go (fromCardinal gender number case) = settings-then (ukrainianRanges (ukrainianSettings gender number case)) [] tt
-        go (fromCurrency gender number case code) = settings-then (ukrainianRanges (ukrainianSettings gender number case)) (unknown (currencyOf code) ∷ []) (unknown-is (currencyOf code), tt)
+        go (fromCardinal gender number case apostrophe) = settings-then (ukrainianRanges (ukrainianSettings gender number case apostrophe)) [] tt
+        go (fromCurrency gender number case apostrophe code) = settings-then (ukrainianRanges (ukrainianSettings gender number case apostrophe)) (unknown (currencyOf code) ∷ []) (unknown-is (currencyOf code), tt)
         go (fromFrenchCardinal feminine reformed region) = settings-then (frenchRanges (frenchSettings feminine reformed region)) [] tt
         go (fromFrenchOrdinal feminine reformed region) = settings-then (frenchRanges (frenchSettings feminine reformed region)) [] tt
     reading-is six call {s} {xs} (sentence z t m) = fitted-is xs t

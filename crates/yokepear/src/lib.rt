@@ -15,12 +15,13 @@ pub extern "C" fn yokepear_uk_to_cardinal(
     gender: u32,
     number: u32,
     case: u32,
+    apostrophe: u32,
     text: &[u8],
     out: &mut [u8],
 ) -> Answer
-    ensures { λ r. ⌜ Answers r (now (out .entry)) (now (out .exit)) (replied (spellingOf (toCardinal gender number case (now (text .entry)))) (now (out .entry))) ⌝ }
+    ensures { λ r. ⌜ Answers r (now (out .entry)) (now (out .exit)) (replied (spellingOf (toCardinal gender number case apostrophe (now (text .entry)))) (now (out .entry))) ⌝ }
 {
-    uk_calls::to_cardinal(gender, number, case, text, out)
+    uk_calls::to_cardinal(gender, number, case, apostrophe, text, out)
 }
 
 // The number text of a cardinal.
@@ -29,12 +30,13 @@ pub extern "C" fn yokepear_uk_from_cardinal(
     gender: u32,
     number: u32,
     case: u32,
+    apostrophe: u32,
     phrase: &[u8],
     out: &mut [u8],
 ) -> Answer
-    ensures { λ r. ⌜ Reads (readingOf (fromCardinal gender number case)) (now (phrase .entry)) r (now (out .entry)) (now (out .exit)) ⌝ }
+    ensures { λ r. ⌜ Reads (readingOf (fromCardinal gender number case apostrophe)) (now (phrase .entry)) r (now (out .entry)) (now (out .exit)) ⌝ }
 {
-    uk_calls::from_cardinal(gender, number, case, phrase, out)
+    uk_calls::from_cardinal(gender, number, case, apostrophe, phrase, out)
 }
 
 // The ordinal of a number text.
@@ -43,12 +45,13 @@ pub extern "C" fn yokepear_uk_to_ordinal(
     gender: u32,
     number: u32,
     case: u32,
+    apostrophe: u32,
     text: &[u8],
     out: &mut [u8],
 ) -> Answer
-    ensures { λ r. ⌜ Answers r (now (out .entry)) (now (out .exit)) (replied (spellingOf (toOrdinal gender number case (now (text .entry)))) (now (out .entry))) ⌝ }
+    ensures { λ r. ⌜ Answers r (now (out .entry)) (now (out .exit)) (replied (spellingOf (toOrdinal gender number case apostrophe (now (text .entry)))) (now (out .entry))) ⌝ }
 {
-    uk_ordinal_calls::to_ordinal(gender, number, case, text, out)
+    uk_ordinal_calls::to_ordinal(gender, number, case, apostrophe, text, out)
 }
 
 // The digit ordinal of a number text.
@@ -57,12 +60,13 @@ pub extern "C" fn yokepear_uk_to_ordinal_num(
     gender: u32,
     number: u32,
     case: u32,
+    apostrophe: u32,
     text: &[u8],
     out: &mut [u8],
 ) -> Answer
-    ensures { λ r. ⌜ Answers r (now (out .entry)) (now (out .exit)) (replied (spellingOf (toOrdinalNum gender number case (now (text .entry)))) (now (out .entry))) ⌝ }
+    ensures { λ r. ⌜ Answers r (now (out .entry)) (now (out .exit)) (replied (spellingOf (toOrdinalNum gender number case apostrophe (now (text .entry)))) (now (out .entry))) ⌝ }
 {
-    uk_ordinal_calls::to_ordinal_num(gender, number, case, text, out)
+    uk_ordinal_calls::to_ordinal_num(gender, number, case, apostrophe, text, out)
 }
 
 // The phrase of a year.
@@ -71,12 +75,13 @@ pub extern "C" fn yokepear_uk_to_year(
     gender: u32,
     number: u32,
     case: u32,
+    apostrophe: u32,
     year: i64,
     out: &mut [u8],
 ) -> Answer
-    ensures { λ r. ⌜ Answers r (now (out .entry)) (now (out .exit)) (replied (spellingOf (toYear gender number case year)) (now (out .entry))) ⌝ }
+    ensures { λ r. ⌜ Answers r (now (out .entry)) (now (out .exit)) (replied (spellingOf (toYear gender number case apostrophe year)) (now (out .entry))) ⌝ }
 {
-    uk_ordinal_calls::to_year(gender, number, case, year, out)
+    uk_ordinal_calls::to_year(gender, number, case, apostrophe, year, out)
 }
 
 // The phrase of a money text in a currency.
@@ -85,13 +90,14 @@ pub extern "C" fn yokepear_uk_to_currency(
     gender: u32,
     number: u32,
     case: u32,
+    apostrophe: u32,
     code: &[u8],
     text: &[u8],
     out: &mut [u8],
 ) -> Answer
-    ensures { λ r. ⌜ Answers r (now (out .entry)) (now (out .exit)) (replied (spellingOf (toCurrency gender number case (now (code .entry)) (now (text .entry)))) (now (out .entry))) ⌝ }
+    ensures { λ r. ⌜ Answers r (now (out .entry)) (now (out .exit)) (replied (spellingOf (toCurrency gender number case apostrophe (now (code .entry)) (now (text .entry)))) (now (out .entry))) ⌝ }
 {
-    uk_money_calls::to_currency(gender, number, case, code, text, out)
+    uk_money_calls::to_currency(gender, number, case, apostrophe, code, text, out)
 }
 
 // The money text of an amount in a currency.
@@ -100,13 +106,14 @@ pub extern "C" fn yokepear_uk_from_currency(
     gender: u32,
     number: u32,
     case: u32,
+    apostrophe: u32,
     code: &[u8],
     phrase: &[u8],
     out: &mut [u8],
 ) -> Answer
-    ensures { λ r. ⌜ Reads (readingOf (fromCurrency gender number case (now (code .entry)))) (now (phrase .entry)) r (now (out .entry)) (now (out .exit)) ⌝ }
+    ensures { λ r. ⌜ Reads (readingOf (fromCurrency gender number case apostrophe (now (code .entry)))) (now (phrase .entry)) r (now (out .entry)) (now (out .exit)) ⌝ }
 {
-    uk_money_calls::from_currency(gender, number, case, code, phrase, out)
+    uk_money_calls::from_currency(gender, number, case, apostrophe, code, phrase, out)
 }
 
 // The French cardinal of a number text.
@@ -171,11 +178,12 @@ pub extern "C" fn yokepear_uk_measure_cardinal(
     gender: u32,
     number: u32,
     case: u32,
+    apostrophe: u32,
     text: &[u8],
 ) -> Measure
-    ensures { λ r. ⌜ r ≡ measured (spellingOf (toCardinal gender number case (now (text .entry)))) ⌝ }
+    ensures { λ r. ⌜ r ≡ measured (spellingOf (toCardinal gender number case apostrophe (now (text .entry)))) ⌝ }
 {
-    uk_calls::measure_cardinal(gender, number, case, text)
+    uk_calls::measure_cardinal(gender, number, case, apostrophe, text)
 }
 
 // The measure of an ordinal.
@@ -184,11 +192,12 @@ pub extern "C" fn yokepear_uk_measure_ordinal(
     gender: u32,
     number: u32,
     case: u32,
+    apostrophe: u32,
     text: &[u8],
 ) -> Measure
-    ensures { λ r. ⌜ r ≡ measured (spellingOf (toOrdinal gender number case (now (text .entry)))) ⌝ }
+    ensures { λ r. ⌜ r ≡ measured (spellingOf (toOrdinal gender number case apostrophe (now (text .entry)))) ⌝ }
 {
-    uk_ordinal_calls::measure_ordinal(gender, number, case, text)
+    uk_ordinal_calls::measure_ordinal(gender, number, case, apostrophe, text)
 }
 
 // The measure of a digit ordinal.
@@ -197,11 +206,12 @@ pub extern "C" fn yokepear_uk_measure_ordinal_num(
     gender: u32,
     number: u32,
     case: u32,
+    apostrophe: u32,
     text: &[u8],
 ) -> Measure
-    ensures { λ r. ⌜ r ≡ measured (spellingOf (toOrdinalNum gender number case (now (text .entry)))) ⌝ }
+    ensures { λ r. ⌜ r ≡ measured (spellingOf (toOrdinalNum gender number case apostrophe (now (text .entry)))) ⌝ }
 {
-    uk_ordinal_calls::measure_ordinal_num(gender, number, case, text)
+    uk_ordinal_calls::measure_ordinal_num(gender, number, case, apostrophe, text)
 }
 
 // The measure of a year.
@@ -210,11 +220,12 @@ pub extern "C" fn yokepear_uk_measure_year(
     gender: u32,
     number: u32,
     case: u32,
+    apostrophe: u32,
     year: i64,
 ) -> Measure
-    ensures { λ r. ⌜ r ≡ measured (spellingOf (toYear gender number case year)) ⌝ }
+    ensures { λ r. ⌜ r ≡ measured (spellingOf (toYear gender number case apostrophe year)) ⌝ }
 {
-    uk_ordinal_calls::measure_year(gender, number, case, year)
+    uk_ordinal_calls::measure_year(gender, number, case, apostrophe, year)
 }
 
 // The measure of an amount in a currency.
@@ -223,12 +234,13 @@ pub extern "C" fn yokepear_uk_measure_currency(
     gender: u32,
     number: u32,
     case: u32,
+    apostrophe: u32,
     code: &[u8],
     text: &[u8],
 ) -> Measure
-    ensures { λ r. ⌜ r ≡ measured (spellingOf (toCurrency gender number case (now (code .entry)) (now (text .entry)))) ⌝ }
+    ensures { λ r. ⌜ r ≡ measured (spellingOf (toCurrency gender number case apostrophe (now (code .entry)) (now (text .entry)))) ⌝ }
 {
-    uk_money_calls::measure_currency(gender, number, case, code, text)
+    uk_money_calls::measure_currency(gender, number, case, apostrophe, code, text)
 }
 
 // The measure of a French cardinal.

@@ -1,4 +1,4 @@
--- `tokens::end` meets its contract: the lowest bit of `low` tells the letters before the first byte below 64, and the bytes below it are theirs.
+-- `tokens::end` meets its contract: the lowest bit of `low` tells the letters before the first gap, and the bytes below it are theirs.
 -- Assumes nothing.
 use borrow.Author.Needs.{needs}
 use Prim.Native.Nat.{ℕ, _+_, _-_, _*_, _/_, _%_, _^_, _<_, _≤_}

@@ -30,7 +30,7 @@ module _ (c : tie.In-loop Inv-loop μ-loop) where
   bytes : Bytes text
   bytes i = omega (arith, c .before .before .shared-slice-known .given i)
 
--- one of them is below 64
+-- one of them is a gap
 module _ (c : tie.Then1 Inv-loop μ-loop) where
   ends : Ends (c .before .before .get8 .result)
   ends e = c .if1 .taken (c .before .low .ensures ∙ e)

@@ -9,5 +9,5 @@ pub teen-spec : {M : Type 1} → statement M
 teen-spec =
     tie.close
     (tie.spec
-    (λ c. search needs) (λ c. search needs)
-    (λ c. teen-at _))
+    (λ c. search needs) (λ c. search needs) (λ c. search needs) (λ c. search needs) (λ c. search needs)
+    (λ c. teen-at _ _))

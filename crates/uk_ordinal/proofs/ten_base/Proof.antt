@@ -9,5 +9,5 @@ pub ten-base-spec : {M : Type 1} → statement M
 ten-base-spec =
     tie.close
     (tie.spec
-    (λ c. search needs) (λ c. search needs) (λ c. search needs)
-    (λ c. ten-at _))
+    (λ c. search needs) (λ c. search needs) (λ c. search needs) (λ c. search needs) (λ c. search needs) (λ c. search needs)
+    (λ c. ten-at _ _))

@@ -9,5 +9,5 @@ pub unit-base-spec : {M : Type 1} → statement M
 unit-base-spec =
     tie.close
     (tie.spec
-    (λ c. search needs) (λ c. search needs) (λ c. search needs)
-    (λ c. unit-at _))
+    (λ c. search needs) (λ c. search needs) (λ c. search needs) (λ c. search needs) (λ c. search needs) (λ c. search needs)
+    (λ c. unit-at _ _))

@@ -13,9 +13,7 @@ put-spec =
     tie.close
     (tie.spec
     (λ c κs. search needs)
-    (λ c κs. (c .before .if1 .taken, omega (arith, ap length (c .before .before .part .ensures .0), c .before .before .before .before .before .pre)))
+    (λ c κs. let p = c .before .part .ensures in (omega (arith, p .1), omega (arith, ap length (p .0), c .before .before .before .before .pre)))
     (λ c. search needs)
-    (λ c. (ap length (c .before .before .before .before .before .part .ensures .0), c .before .before .put-short .ensures ∙ ap (over (c .before .before .before .before .before .before .before .before .args .out .now)) (c .before .before .before .before .before .part .ensures .0)))
-    (λ c κs. let p = c .before .before .part .ensures in (c .before .if1 .left, omega (arith, p .1), omega (arith, ap length (p .0), c .before .before .before .before .before .pre)))
-    (λ c. search needs)
-    (λ c. (ap length (c .before .before .before .before .before .part .ensures .0), c .before .before .put-long .ensures ∙ ap (over (c .before .before .before .before .before .before .before .before .args .out .now)) (c .before .before .before .before .before .part .ensures .0))))
+    (λ c. let s = c .before .before .before .before .before .before .before in let p = c .before .before .before .before .part .ensures .0 in let k = c .before .before .copy .ensures in
+    (k .0 ∙ ap length p, k .1 ∙ ap (over (s .args .out .now)) p)))

@@ -44,7 +44,7 @@ say-spec =
     (tie.spec (λ c κs. search needs) (λ c κs. search needs) (λ c. search needs) (λ c. search needs) (λ c κs. search needs) (λ c. search needs)
     (λ c. let l = c .before .before .before in
     (heard _ _ _ (is-said l) (too-long (now (c .before .before .before .before .before .before .before .args .out)) (said l) _ (size l _ (c .before .short-len .ensures .0)) (c .if2 .taken)), omega (arith, l .before .before .before .before .pre .3, c .before .short-len .ensures .1)))
-    (λ c κs. room (c .before))
+    (λ c κs. (c .before .before .before .before .before .before .pre .3, room (c .before)))
     (λ c. search needs)
     (λ c. let l = c .before .before .before .before .before in let p = c .before .before .put in
     (heard _ _ _ (is-said l) (written (now (c .before .before .before .before .before .before .before .before .before .args .out)) (said l) _ (p .ensures .0) _ (omega (arith, room (c .before .before .before .before), p .ensures .0)) (p .ensures .1)), omega (arith, p .ensures .0, size l _ refl, part-short shortPool (l .short-ending .result), l .before .before .before .before .pre .3))))
