@@ -24,8 +24,8 @@ ghost use Rattle.base.specs.Utf8.{utf8, form1, form2, form3};
 ghost use Rattle.base.specs.Room.{longestPiece};
 ghost use Rattle.words.specs.Part.{part};
 ghost use Rattle.plan.specs.Phrase.{phraseOf};
-ghost use Rattle.plan.specs.Plan.{pieces, says};
-ghost use Rattle.uk.specs.Pool.{ukPool, frontSize};
+ghost use Rattle.plan.specs.Plan.{pieces, says, Below};
+ghost use Rattle.uk.specs.Pool.{ukPool, frontSize, frontPlaces};
 ghost use Rattle.uk.specs.UkTables.{zeros, teensBases, teensFlexions, tens, hundreds, megaBases};
 ghost use Rattle.uk.specs.Apostrophes.{byApostrophe1, byApostrophe2};
 ghost use Rattle.settings.specs.Settings.{ukrainianRanges, Within};
@@ -53,6 +53,26 @@ fn front() -> [u8; pool::FRONT]
     pool::FRONT_POOL
 }
 
+// Answers with what the first n pieces of a plan say, whose places lie in the front; and with what any pieces say. Each has its own texts, so that those of
+// one are not in the other's frame.
+fn speak_front(plan: &[u32], n: usize, out: &mut [u8]) -> Answer
+    requires { ⌜ (n ≤ length (now plan)) × (n ≤ 1000) × Below frontPlaces (take n (now plan)) ⌝ }
+    ensures { λ r. ⌜ Answers r (now (out .entry)) (now (out .exit)) (fitted (now (out .entry)) (phraseOf (says ukPool (now (plan .entry)) n))) ⌝ }
+    ensures { λ r. ⌜ r .length ≤ longestPiece * n ⌝ }
+{
+    let lent = front();
+    plan::speak(&lent, plan, n, out)
+}
+
+fn speak_any(plan: &[u32], n: usize, out: &mut [u8]) -> Answer
+    requires { ⌜ (n ≤ length (now plan)) × (n ≤ 1000) ⌝ }
+    ensures { λ r. ⌜ Answers r (now (out .entry)) (now (out .exit)) (fitted (now (out .entry)) (phraseOf (says ukPool (now (plan .entry)) n))) ⌝ }
+    ensures { λ r. ⌜ r .length ≤ longestPiece * n ⌝ }
+{
+    let lent = texts();
+    plan::speak(&lent, plan, n, out)
+}
+
 // Answers with what the first n pieces of a plan say.
 pub fn speak(plan: &[u32], n: usize, out: &mut [u8]) -> Answer
     requires { ⌜ (n ≤ length (now plan)) × (n ≤ 1000) ⌝ }
@@ -60,11 +80,9 @@ pub fn speak(plan: &[u32], n: usize, out: &mut [u8]) -> Answer
     ensures { λ r. ⌜ r .length ≤ longestPiece * n ⌝ }
 {
     if plan::below(plan, n, pool::FRONT_PLACES) {
-        let first = front();
-        return plan::speak(&first, plan, n, out);
+        return speak_front(plan, n, out);
     }
-    let lent = texts();
-    plan::speak(&lent, plan, n, out)
+    speak_any(plan, n, out)
 }
 
 // The measure of what they say: the texts are not made for it.
@@ -76,16 +94,30 @@ pub fn measure(plan: &[u32], n: usize) -> Measure
     plan::measure::measure(pool::UNSPACED, &counts, plan, n)
 }
 
+// Whether s is the phrase of a plan whose places lie in the front; and of any plan.
+fn stands_front(plan: &[u32], s: &[u8]) -> bool
+    requires { ⌜ Below frontPlaces (now plan) ⌝ }
+    ensures { λ r. ⌜ Decides r (phraseOf (pieces ukPool (now (plan .entry))) ≡ now (s .entry)) ⌝ }
+{
+    let lent = front();
+    plan::stands(&lent, plan, s)
+}
+
+fn stands_any(plan: &[u32], s: &[u8]) -> bool
+    ensures { λ r. ⌜ Decides r (phraseOf (pieces ukPool (now (plan .entry))) ≡ now (s .entry)) ⌝ }
+{
+    let lent = texts();
+    plan::stands(&lent, plan, s)
+}
+
 // Whether s is the phrase of a plan.
 pub fn stands(plan: &[u32], s: &[u8]) -> bool
     ensures { λ r. ⌜ Decides r (phraseOf (pieces ukPool (now (plan .entry))) ≡ now (s .entry)) ⌝ }
 {
     if plan::below(plan, plan.len(), pool::FRONT_PLACES) {
-        let first = front();
-        return plan::stands(&first, plan, s);
+        return stands_front(plan, s);
     }
-    let lent = texts();
-    plan::stands(&lent, plan, s)
+    stands_any(plan, s)
 }
 
 // The minus word.

@@ -1,7 +1,9 @@
--- `uk::stands` meets its contract: where the front of the texts is lent, it holds all that the plan says.
+-- `uk::stands` meets its contract.
 -- Assumes nothing.
 use borrow.Author.Needs.{needs}
-use Rattle.uk.proofs.Lent.{front-all}
+use native.Mathlib.Omega.{arith}
+use lib.ListN.{length}
+use lib.Seq.{take-all}
 use Rattle.uk.proofs.stands.Statement.{statement}
 use Rattle.uk.proofs.stands.Tie as tie
 
@@ -10,11 +12,5 @@ stands-spec =
     tie.close
     (tie.spec
     (λ c κs. search needs)
-    (λ c κs. search needs)
-    (λ c. search needs)
-    (λ c κs. search needs)
-    (λ c. rw (c .before .before .front .ensures, front-all (c .before .before .before .before .before .before .before .args .plan .now) (c .before .before .before .before .below .ensures (c .before .before .before .if1 .taken))) at (c .stands .ensures))
-    (λ c κs. search needs)
-    (λ c. search needs)
-    (λ c κs. search needs)
-    (λ c. rw (c .before .before .texts .ensures) at (c .stands2 .ensures)))
+    (λ c κs. let p = c .before .before .before .before .args .plan .now in rw (take-all (length p) p (omega arith)) at (c .before .below .ensures (c .if1 .taken)))
+    (λ c. search needs) (λ c κs. search needs) (λ c. search needs))
