@@ -1,6 +1,7 @@
 -- `uk::hundred` meets its contract.
 -- Assumes nothing.
 use borrow.Author.Needs.{needs}
+use Prim.Native.Nat.{_-_}
 use mathlib.Core.Path.{_∙_, ap}
 use native.Mathlib.Omega.{arith}
 use Rattle.words.specs.Part.{part}
@@ -14,4 +15,4 @@ hundred-spec =
     tie.close
     (tie.spec
     (λ c. search needs) (λ c. search needs) (λ c. search needs) (λ c. search needs) (λ c. search needs) (λ c. search needs) (λ c. search needs) (λ c κs. search needs)
-    (λ c. let s = c .before .before .before in ap (part ukPool) (c .place .ensures) ∙ hundred-at _ _ _ (s .pre .0 .1 .1 .1 .0) (omega (arith, s .pre)) (s .pre .0 .1 .1 .0)))
+    (λ c. let s = c .before .before .before in ap (part ukPool) (c .place .ensures) ∙ hundred-at (s .args .settings .apostrophe) (s .args .h - 1) (s .args .settings .case) (s .pre .0 .1 .1 .1 .0) (omega (arith, s .pre)) (s .pre .0 .1 .1 .0)))
