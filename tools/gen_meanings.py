@@ -1,6 +1,6 @@
 #!/usr/bin/env python3
-# gen_meanings.py [--check] [LANGUAGE...]: writes the crates uk_meanings and fr_meanings (code, specs and proofs) from the lists
-# tools/uk_meanings.txt and tools/fr_meanings.txt, in the layout of `rt fmt`. With --check it writes nothing and fails at a difference.
+# gen_meanings.py [--check] [LIST...]: writes the crates fr_meanings, uk_meanings and uk_ordinal_meanings (code, specs and proofs) from the lists
+# tools/*_meanings.txt, in the layout of `rt fmt`. With --check it writes nothing and fails at a difference.
 # A line of a list is a meaning, a number, and the words that mean it: `4 quatre quatrième`. A word that means 0 has no arm; it is listed so
 # that no other word gets its key. A word with an apostrophe stands for itself and for the same word with each other sign. Run by hand after a change
 # of a list; what it writes is committed.
@@ -12,13 +12,17 @@ import arms
 import generated
 
 HERE = os.path.dirname(os.path.abspath(__file__))
-LANGUAGES = {'fr': 'French', 'uk': 'Ukrainian'}
+# What the words of each list are, and what their meanings are besides numbers.
+LISTS = {
+    'fr': ('words of the French numbers', '1000 and more a scale word of that order, 2001 minus'),
+    'uk': ('words of the Ukrainian numbers', "1000 and more a scale word of that order (zero's word closes a group of order 0), 2001 minus"),
+    'uk_ordinal': ('stems of the Ukrainian ordinals', "1001 and more a scale's adjective of that order, 2000 zero"),
+}
 KEYS, END = 823685, 62  # as in crates/tokens/specs/Tokens.antt
 UNIT = 1 << 20  # above every key: crates/meanings/specs/Lookup.antt has the same number
 PARTS = 64  # so many parts of the keys are moved apart
 # How many places a table has: at least two fifths of them are taken, so that the compiler makes a load of the match and no jump.
-SLOTS = {'fr': 256, 'uk': 512}
-ZEROS = {'fr': '', 'uk': " (zero's word closes a group of order 0)"}
+SLOTS = {'fr': 256, 'uk': 512, 'uk_ordinal': 120}
 
 
 def key(word):
@@ -26,9 +30,9 @@ def key(word):
 
 
 # what each key means that means anything, with a word of it
-def meanings_of(language):
+def meanings_of(name):
     meanings = {}
-    for line in open(os.path.join(HERE, '%s_meanings.txt' % language), encoding='utf8'):
+    for line in open(os.path.join(HERE, '%s_meanings.txt' % name), encoding='utf8'):
         meaning, *words = line.split()
         for word in apostrophes.each_sign(words):
             known = meanings.setdefault(key(word), (int(meaning), word))
@@ -50,12 +54,12 @@ def shifts_of(keys, slots):
 
 
 class Crate:
-    def __init__(self, language):
-        self.language = language
-        self.name = language + '_meanings'
+    def __init__(self, name):
+        self.said = LISTS[name]
+        self.name = name + '_meanings'
         self.files = {}
-        self.slots = SLOTS[language]
-        meanings = meanings_of(language)
+        self.slots = SLOTS[name]
+        meanings = meanings_of(name)
         shifts = shifts_of(meanings, self.slots)
         self.shifts = list(enumerate(shifts))
         place = {k: (k + shifts[k // self.slots % PARTS]) % self.slots for k in meanings}
@@ -72,8 +76,8 @@ class Crate:
         ):
             lists += '-- %s\nunfoldable pub %s : Entries\n%s =\n%s\n\n' % (said, name, name, arms.filled(arms.listing(entries)))
         self.write('specs/Lib.antt', 'pub mod Meanings\n')
-        self.write('specs/Meanings.antt', '''-- What the words of the %s numbers mean, by their keys: 1 to 999 a number,
--- 1000 and more a scale word of that order%s, 2001 minus, 0 nothing.
+        self.write('specs/Meanings.antt', '''-- What the %s mean, by their keys: 1 to 999 a number,
+-- %s, 0 nothing.
 -- What a reader makes of these is held against the grammar's own words afterwards, so nothing here has to be believed.
 -- Assumes nothing.
 use Prim.Native.Nat.{ℕ, _+_, _/_, _%%_}
@@ -87,7 +91,7 @@ placeOf key = (key %% %d + lookup (key / %d %% %d) shifts) %% %d
 -- the meaning of the word with this key
 unfoldable pub meaningOf : ℕ → ℕ
 meaningOf key = meaningAt key (lookup (placeOf key) table)
-''' % (LANGUAGES[self.language], ZEROS[self.language], lists, self.slots, self.slots, PARTS, self.slots))
+''' % (*self.said, lists, self.slots, self.slots, PARTS, self.slots))
 
     # a match with an arm for each entry of a list
     def match(self, name, comment, head, arms_of):
@@ -99,7 +103,7 @@ meaningOf key = meaningAt key (lookup (placeOf key) table)
         comment = 'What stands at a place: %d times what its key means, and the key; or 0.' % UNIT
         entries = ['%d => 0x%04x_%04x, // %s: %d' % (p, (m * UNIT + k) >> 16, (m * UNIT + k) & 65535, w, m) for p, m, w, k in self.table]
         self.match('table', comment, 'entry_at(place: u32) -> u32', entries)
-        self.write('src/lib.rt', '''// What the words of the %s numbers mean, by their keys.
+        self.write('src/lib.rt', '''// What the %s mean, by their keys.
 mod shifts;
 mod table;
 
@@ -124,7 +128,7 @@ pub fn meaning(key: u32) -> u16
     }
     0
 }
-''' % (LANGUAGES[self.language], self.name, self.slots, PARTS, UNIT))
+''' % (self.said[0], self.name, self.slots, PARTS, UNIT))
 
     # a table's
     def table_proof(self, path, name, count):
@@ -170,9 +174,9 @@ meaning-spec =
 def main():
     parser = argparse.ArgumentParser()
     parser.add_argument('--check', action='store_true')
-    parser.add_argument('languages', nargs='*', metavar='LANGUAGE')
+    parser.add_argument('lists', nargs='*', metavar='LIST')
     given = parser.parse_args()
-    crates = [Crate(language).generate() for language in given.languages or LANGUAGES]
+    crates = [Crate(name).generate() for name in given.lists or LISTS]
     files = {path: text for crate in crates for path, text in crate.files.items()}
     folders = ['crates/%s/%s' % (crate.name, folder) for crate in crates for folder in ('specs', 'src', 'proofs')]
     generated.put(files, folders, given.check)

@@ -38,6 +38,7 @@ step kit tools/kit.sh || failed kit
 step layout rt fmt --check || failed layout
 step words python3 tools/gen_words.py --check || failed words
 step meanings python3 tools/gen_meanings.py --check || failed meanings
+step counts python3 tools/gen_counts.py --check || failed counts
 step money python3 tools/gen_money.py --check || failed money
 step reading_order python3 tools/reading_table.py --check || failed reading_order
 step edit_table python3 tools/edit_table.py --check || failed edit_table

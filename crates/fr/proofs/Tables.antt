@@ -60,7 +60,7 @@ teen-word u h = placed _ _ (all-at 0 10 teen? teens-right u (omega arith) h)
 
 -- tens, which the region alone decides
 abbrev region : ℕ → Settings
-region g = record { gender = 0; number = 0; case = 0; reformed = 0; region = g; apostrophe = 0 }
+region g = record { gender = 0; number = 0; case = 0; reformed = 0; region = g; apostrophe = 0; style = 0 }
 
 abbrev oneWord : Settings → ℕ → Bool
 oneWord S t = not (countsOn S t || fourTwenties S t)

@@ -24,13 +24,13 @@ use Rattle.uk_money.specs.Codes.{unknown}
 use Rattle.figures.specs.Text.{value, negative, unsigned, wellFormed}
 use Rattle.figures.specs.Refusals.{cardinalRefusals, ordinalRefusals, digitOrdinalRefusals, amountRefusals, yearRefusals}
 use Rattle.figures.specs.Year.{yearOf, yearLimit}
-use Rattle.uk_ordinal_calls.specs.UkOrdinals.{ukToYear}
+use Rattle.uk_ordinal_calls.specs.UkOrdinals.{ukToYear, yearText}
 use Rattle.phrases_forms.specs.Line.{kindOf, languageOf, genderOf, grammaticalNumberOf, caseOf, feminineOf, reformedOf, regionOf, closed}
 use Rattle.phrases_forms.specs.Cuts.{nextWord, afterSpace}
 use Rattle.phrases_forms.specs.declared.Kind.{Kind}
 use Rattle.phrases_forms.specs.declared.Language.{Language}
 use Rattle.phrases_forms.specs.declared.Language.the-variants.{Ukrainian, French}
-use Rattle.phrases_answers.specs.Answers.{lineOf, badLine, answerTo, yearText, answerLine, lineSettings}
+use Rattle.phrases_answers.specs.Answers.{lineOf, badLine, answerTo, answerLine, lineSettings}
 use Rattle.phrases_answers.specs.Left.{ukrainianLeft, frenchLeft, afterThree, settledLeft}
 use Rattle.phrases_answers.specs.Wrote.{Wrote}
 use Rattle.phrases_answers.proofs.Forms.{form-is}

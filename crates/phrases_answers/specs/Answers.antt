@@ -6,17 +6,14 @@ use mathlib.Core.List.{List, [], _∷_, _++_}
 use lib.Dec.{eqb, leb, ltb}
 use lib.ListN.{length}
 use mathlib.Core.Option.{Option, none, some}
-use Rattle.base.specs.Answer.{Spelling, firstOf}
+use Rattle.base.specs.Answer.{Spelling}
 use Rattle.base.specs.Join.{Word}
 use Rattle.base.specs.Signs.{lineFeed, digitZero}
 use Rattle.base.specs.Utf8.{utf8}
-use Rattle.settings.specs.Settings.{letterApostrophe, ukrainianSettings, frenchSettings, ukrainianRanges, frenchRanges, within}
-use Rattle.settings.specs.Refused.{outOfRange}
+use Rattle.settings.specs.Settings.{letterApostrophe, portedStyle, ukrainianSettings, frenchSettings, ukrainianRanges, frenchRanges, within}
 use Rattle.settings.specs.declared.Settings.{Settings}
-use Rattle.figures.specs.Refusals.{yearRefusals}
-use Rattle.figures.specs.Year.{yearOf}
 use Rattle.uk_calls.specs.UkCardinals.{ukToCardinal}
-use Rattle.uk_ordinal_calls.specs.UkOrdinals.{ukToOrdinal, ukToOrdinalNum, ukToYear}
+use Rattle.uk_ordinal_calls.specs.UkOrdinals.{ukToOrdinal, ukToOrdinalNum, yearText}
 use Rattle.uk_money_calls.specs.MoneyCalls.{ukToCurrency}
 use Rattle.fr_calls.specs.FrCalls.{frToCardinal, frToOrdinal}
 use Rattle.phrases_forms.specs.Line.{wordsOf, kindOf, languageOf, genderOf, grammaticalNumberOf, caseOf, feminineOf, reformedOf, regionOf, textForm, codeForm}
@@ -42,10 +39,6 @@ abbrev pub answerTo : Option Spelling → List ℕ
 answerTo none = badLine
 answerTo (some S) = lineOf (S .refusal) (S .phrase)
 
--- a year's text: "A malformed year is refused 3, one beyond 64 signed bits 5"
-abbrev pub yearText : Settings → List ℕ → Spelling
-yearText S t = record { refusal = firstOf (outOfRange (ukrainianRanges S) ∷ yearRefusals t); phrase = ukToYear S (yearOf t) .phrase }
-
 -- the last words of a Ukrainian form of each kind
 unfoldable pub ukrainianForm : Kind → Settings → List Word → Option Spelling
 ukrainianForm Card S ws = textForm (ukToCardinal S) ws
@@ -64,9 +57,9 @@ frenchForm Year S ws = none
 frenchForm Money S ws = none
 frenchForm Other S ws = none
 
--- the settings of a Ukrainian line, which names three of them: of apostrophes, "The program's lines mean 0" (02, W2)
+-- the settings of a Ukrainian line, which names three of them: of apostrophes and of ordinal styles, "The program's lines mean 0" (02, W2 and W3)
 abbrev pub lineSettings : ℕ → ℕ → ℕ → Settings
-lineSettings gender number case = ukrainianSettings gender number case letterApostrophe
+lineSettings gender number case = ukrainianSettings gender number case letterApostrophe portedStyle
 
 -- the settings that three words name, in each language; a word that is no name is out of range
 abbrev pub ukrainianNamed : Word → Word → Word → Settings

@@ -8,7 +8,7 @@ use Rattle.base.specs.Answer.{Spelling}
 use Rattle.settings.specs.Settings.{ukrainianRanges, frenchRanges, within}
 use Rattle.settings.specs.declared.Settings.{Settings}
 use Rattle.uk_calls.specs.UkCardinals.{ukToCardinal}
-use Rattle.uk_ordinal_calls.specs.UkOrdinals.{ukToOrdinal, ukToOrdinalNum}
+use Rattle.uk_ordinal_calls.specs.UkOrdinals.{ukToOrdinal, ukToOrdinalNum, yearText}
 use Rattle.uk_money_calls.specs.MoneyCalls.{ukToCurrency}
 use Rattle.fr_calls.specs.FrCalls.{frToCardinal, frToOrdinal}
 use Rattle.phrases_forms.specs.Cuts.{nextWord, afterSpace, textLeft, codeLeft}
@@ -16,7 +16,7 @@ use Rattle.phrases_forms.specs.declared.Kind.{Kind}
 use Rattle.phrases_forms.specs.declared.Kind.the-variants.{Card, Ord, Num, Year, Money, Other}
 use Rattle.phrases_forms.specs.declared.Language.{Language}
 use Rattle.phrases_forms.specs.declared.Language.the-variants.{Ukrainian, French, Neither}
-use Rattle.phrases_answers.specs.Answers.{yearText, ukrainianNamed, frenchNamed}
+use Rattle.phrases_answers.specs.Answers.{ukrainianNamed, frenchNamed}
 
 -- what is left of a Ukrainian form of each kind
 unfoldable pub ukrainianLeft : Kind → Settings → List ℕ → Option Spelling

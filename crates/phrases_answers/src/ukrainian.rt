@@ -1,4 +1,4 @@
-// Ukrainian forms, kind by kind. A line names no apostrophe: its words have U+02BC.
+// Ukrainian forms, kind by kind. A line names neither an apostrophe nor an ordinal style: it has U+02BC and the ported style.
 use super::write::bad;
 use super::write::finish;
 use super::write::refuse;
@@ -6,6 +6,7 @@ use phrases_forms::Kind;
 use phrases_forms::runs::is_closed;
 use phrases_forms::runs::is_run;
 use settings::LETTER_APOSTROPHE;
+use settings::PORTED_STYLE;
 ghost use mathlib.Core.Path.{_≡_};
 ghost use mathlib.Core.Bool.{true};
 ghost use Prim.Native.Nat.{_≤_};
@@ -16,7 +17,8 @@ ghost use Rattle.phrases_forms.specs.declared.Language.the-variants.{Ukrainian 
 ghost use mathlib.Core.Option.{some};
 ghost use Rattle.base.specs.Room.{lineRoom};
 ghost use Rattle.uk_money_calls.specs.MoneyCalls.{ukToCurrency};
-ghost use Rattle.phrases_answers.specs.Answers.{answerTo, yearText, lineSettings};
+ghost use Rattle.uk_ordinal_calls.specs.UkOrdinals.{yearText};
+ghost use Rattle.phrases_answers.specs.Answers.{answerTo, lineSettings};
 ghost use Rattle.phrases_forms.specs.Cuts.{codeLeft};
 ghost use Rattle.phrases_answers.specs.Left.{ukrainianLeft, settledLeft};
 ghost use Rattle.phrases_answers.specs.Wrote.{Wrote};
@@ -28,7 +30,15 @@ fn card(gender: u32, number: u32, case: u32, s: &[u8], out: &mut [u8]) -> usize
 {
     if is_closed(s) {
         let e = s.len() - 1;
-        let a = uk_calls::to_cardinal(gender, number, case, LETTER_APOSTROPHE, &s[..e], out);
+        let a = uk_calls::to_cardinal(
+            gender,
+            number,
+            case,
+            LETTER_APOSTROPHE,
+            PORTED_STYLE,
+            &s[..e],
+            out,
+        );
         return finish(a, out);
     }
     bad(out)
@@ -41,7 +51,15 @@ fn ord(gender: u32, number: u32, case: u32, s: &[u8], out: &mut [u8]) -> usize
 {
     if is_closed(s) {
         let e = s.len() - 1;
-        let a = uk_ordinal_calls::to_ordinal(gender, number, case, LETTER_APOSTROPHE, &s[..e], out);
+        let a = uk_ordinal_calls::to_ordinal(
+            gender,
+            number,
+            case,
+            LETTER_APOSTROPHE,
+            PORTED_STYLE,
+            &s[..e],
+            out,
+        );
         return finish(a, out);
     }
     bad(out)
@@ -59,6 +77,7 @@ fn num(gender: u32, number: u32, case: u32, s: &[u8], out: &mut [u8]) -> usize
             number,
             case,
             LETTER_APOSTROPHE,
+            PORTED_STYLE,
             &s[..e],
             out,
         );
@@ -75,7 +94,15 @@ fn say_year(gender: u32, number: u32, case: u32, text: &[u8], out: &mut [u8]) ->
     let n = figures::refusals::number_of(figures::refusals::judge_year(text));
     if n == 0 {
         let y = figures::year::year_of(text);
-        let a = uk_ordinal_calls::to_year(gender, number, case, LETTER_APOSTROPHE, y, out);
+        let a = uk_ordinal_calls::to_year(
+            gender,
+            number,
+            case,
+            LETTER_APOSTROPHE,
+            PORTED_STYLE,
+            y,
+            out,
+        );
         return finish(a, out);
     }
     refuse(n, out)
@@ -106,6 +133,7 @@ fn amount(gender: u32, number: u32, case: u32, code: &[u8], t: &[u8], out: &mut 
                 number,
                 case,
                 LETTER_APOSTROPHE,
+                PORTED_STYLE,
                 code,
                 &t[..e],
                 out,
@@ -150,7 +178,7 @@ pub fn settle(kind: Kind, s: &[u8], out: &mut [u8]) -> usize
 {
     let w = phrases_forms::settings::ukrainian(s);
     let at = w.next;
-    if settings::is_ukrainian(w.a, w.b, w.c, LETTER_APOSTROPHE) {
+    if settings::is_ukrainian(w.a, w.b, w.c, LETTER_APOSTROPHE, PORTED_STYLE) {
         return form(kind, w.a, w.b, w.c, &s[at..], out);
     }
     bad(out)

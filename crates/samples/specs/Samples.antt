@@ -10,7 +10,7 @@ use Rattle.base.specs.Utf8.{utf8}
 use Rattle.base.specs.Answer.{wrongSetting, malformed, wrongSign, tooLarge, noSentence, Spelling, refused}
 use Rattle.base.specs.Measure.{measured}
 use Rattle.base.specs.Reading.{Reading, Replies}
-use Rattle.settings.specs.Settings.{masculine, feminine, singular, nominative, genitive, dative, accusative, instrumental, locative, oldSpelling, newSpelling, regionFR, regionCH, letterApostrophe, ukrainianSettings, frenchSettings, inGender, inCase}
+use Rattle.settings.specs.Settings.{masculine, feminine, singular, nominative, genitive, dative, accusative, instrumental, locative, oldSpelling, newSpelling, regionFR, regionCH, letterApostrophe, portedStyle, ukrainianSettings, frenchSettings, inGender, inCase}
 use Rattle.settings.specs.declared.Settings.{Settings}
 use Rattle.uk_calls.specs.UkCardinals.{ukToCardinal, ukFromCardinal}
 use Rattle.uk_ordinal_calls.specs.UkOrdinals.{ukToOrdinal, ukToOrdinalNum, ukToYear}
@@ -19,11 +19,11 @@ use Rattle.fr_calls.specs.FrCalls.{frToCardinal, frToOrdinal, frFromCardinal}
 
 -- "Ukrainian masculine, singular, nominative, or French masculine, unreformed, FR, unless named"
 abbrev pub usual : Settings
-usual = ukrainianSettings masculine singular nominative letterApostrophe
+usual = ukrainianSettings masculine singular nominative letterApostrophe portedStyle
 
 -- the same with the apostrophe of a number
 abbrev pub usualWith : ℕ → Settings
-usualWith apostrophe = ukrainianSettings masculine singular nominative apostrophe
+usualWith apostrophe = ukrainianSettings masculine singular nominative apostrophe portedStyle
 
 abbrev pub usualFrench : Settings
 usualFrench = frenchSettings masculine oldSpelling regionFR

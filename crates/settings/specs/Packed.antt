@@ -12,4 +12,5 @@ settingsIn code = record {
   reformed = code / 256 / 256 / 256 % 256;
   region = code / 256 / 256 / 256 / 256 % 256;
   apostrophe = code / 256 / 256 / 256 / 256 / 256 % 256;
+  style = code / 256 / 256 / 256 / 256 / 256 / 256 % 256;
 }

@@ -13,6 +13,7 @@ pub struct Settings {
     pub reformed: u8,
     pub region: u8,
     pub apostrophe: u8,
+    pub style: u8,
 }
 
 // The numbers of these genders, grammatical numbers and cases.
@@ -31,13 +32,22 @@ pub const GENITIVE: u8 = 1;
 // The number of the apostrophe that 01's words have, U+02BC.
 pub const LETTER_APOSTROPHE: u32 = 0;
 
+// The numbers of the ordinal styles: as ported, and as taught in school.
+pub const PORTED_STYLE: u32 = 0;
+
+pub const SCHOOL_STYLE: u8 = 1;
+
 // Whether the numbers of a Ukrainian call are in their ranges.
-pub fn is_ukrainian(gender: u32, number: u32, case: u32, apostrophe: u32) -> bool
-    ensures { λ r. ⌜ r ≡ within (ukrainianRanges (ukrainianSettings gender number case apostrophe)) ⌝ }
+pub fn is_ukrainian(gender: u32, number: u32, case: u32, apostrophe: u32, style: u32) -> bool
+    ensures { λ r. ⌜ r ≡ within (ukrainianRanges (ukrainianSettings gender number case apostrophe style)) ⌝ }
 {
     if gender < 3 {
         if number < 2 {
-            if case < 6 { apostrophe < 3 } else { false }
+            if case < 6 {
+                if apostrophe < 3 { style < 2 } else { false }
+            } else {
+                false
+            }
         } else {
             false
         }
@@ -47,9 +57,9 @@ pub fn is_ukrainian(gender: u32, number: u32, case: u32, apostrophe: u32) -> boo
 }
 
 // Their record.
-pub fn ukrainian(gender: u32, number: u32, case: u32, apostrophe: u32) -> Settings
-    requires { ⌜ within (ukrainianRanges (ukrainianSettings gender number case apostrophe)) ≡ true ⌝ }
-    ensures { λ r. ⌜ r ≡ ukrainianSettings gender number case apostrophe ⌝ }
+pub fn ukrainian(gender: u32, number: u32, case: u32, apostrophe: u32, style: u32) -> Settings
+    requires { ⌜ within (ukrainianRanges (ukrainianSettings gender number case apostrophe style)) ≡ true ⌝ }
+    ensures { λ r. ⌜ r ≡ ukrainianSettings gender number case apostrophe style ⌝ }
 {
     Settings {
         gender: gender as u8,
@@ -58,6 +68,7 @@ pub fn ukrainian(gender: u32, number: u32, case: u32, apostrophe: u32) -> Settin
         reformed: 0,
         region: 0,
         apostrophe: apostrophe as u8,
+        style: style as u8,
     }
 }
 
@@ -84,6 +95,7 @@ pub fn french(feminine: u32, reformed: u32, region: u32) -> Settings
         reformed: reformed as u8,
         region: region as u8,
         apostrophe: 0,
+        style: 0,
     }
 }
 
@@ -98,6 +110,7 @@ pub fn in_gender(gender: u8, settings: Settings) -> Settings
         reformed: settings.reformed,
         region: settings.region,
         apostrophe: settings.apostrophe,
+        style: settings.style,
     }
 }
 
@@ -112,6 +125,7 @@ pub fn in_form(number: u8, case: u8, settings: Settings) -> Settings
         reformed: settings.reformed,
         region: settings.region,
         apostrophe: settings.apostrophe,
+        style: settings.style,
     }
 }
 
@@ -119,8 +133,8 @@ pub fn in_form(number: u8, case: u8, settings: Settings) -> Settings
 pub fn packed(settings: Settings) -> u64
     ensures { λ r. ⌜ settingsIn r ≡ settings ⌝ }
 {
-    let signs = settings.region as u64 + 256 * settings.apostrophe as u64;
-    let spelling = settings.reformed as u64 + 256 * signs;
+    let signs = settings.apostrophe as u64 + 256 * settings.style as u64;
+    let spelling = settings.reformed as u64 + 256 * (settings.region as u64 + 256 * signs);
     let form = settings.number as u64 + 256 * (settings.case as u64 + 256 * spelling);
     settings.gender as u64 + 256 * form
 }
@@ -136,5 +150,6 @@ pub fn unpacked(code: u64) -> Settings
         reformed: (code / 256 / 256 / 256 % 256) as u8,
         region: (code / 256 / 256 / 256 / 256 % 256) as u8,
         apostrophe: (code / 256 / 256 / 256 / 256 / 256 % 256) as u8,
+        style: (code / 256 / 256 / 256 / 256 / 256 / 256 % 256) as u8,
     }
 }

@@ -94,6 +94,15 @@ pub fn measure(plan: &[u32], n: usize) -> Measure
     plan::measure::measure(pool::UNSPACED, &counts, plan, n)
 }
 
+// The length of the text at a place.
+pub fn len(place: u16) -> usize
+    ensures { λ r. ⌜ r ≡ length (part ukPool place) ⌝ }
+{
+    let counts = pool::COUNTS;
+    let extent = words::extents::extent_at(pool::UNSPACED, &counts, place as u32);
+    extent.length
+}
+
 // Whether s is the phrase of a plan whose places lie in the front; and of any plan.
 fn stands_front(plan: &[u32], s: &[u8]) -> bool
     requires { ⌜ Below frontPlaces (now plan) ⌝ }

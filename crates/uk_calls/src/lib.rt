@@ -19,10 +19,10 @@ ghost use Rattle.figures.specs.Text.{wellFormed, unsigned};
 ghost use Rattle.uk_calls.specs.UkCardinals.{ukToCardinal, ukFromCardinal};
 
 // The refusals of a spelling call but 7, or 0.
-fn refuse(gender: u32, number: u32, case: u32, apostrophe: u32, text: &[u8]) -> u32
-    ensures { λ r. ⌜ r ≡ ukToCardinal (ukrainianSettings gender number case apostrophe) (now (text .entry)) .refusal ⌝ }
+fn refuse(gender: u32, number: u32, case: u32, apostrophe: u32, style: u32, text: &[u8]) -> u32
+    ensures { λ r. ⌜ r ≡ ukToCardinal (ukrainianSettings gender number case apostrophe style) (now (text .entry)) .refusal ⌝ }
 {
-    if settings::is_ukrainian(gender, number, case, apostrophe) {
+    if settings::is_ukrainian(gender, number, case, apostrophe, style) {
         figures::refusals::number_of(figures::refusals::judge_cardinal(text, DIGITS))
     } else {
         WRONG_SETTING
@@ -76,16 +76,17 @@ pub fn to_cardinal(
     number: u32,
     case: u32,
     apostrophe: u32,
+    style: u32,
     text: &[u8],
     out: &mut [u8],
 ) -> Answer
-    ensures { λ r. ⌜ Answers r (now (out .entry)) (now (out .exit)) (replied (ukToCardinal (ukrainianSettings gender number case apostrophe) (now (text .entry))) (now (out .entry))) ⌝ }
+    ensures { λ r. ⌜ Answers r (now (out .entry)) (now (out .exit)) (replied (ukToCardinal (ukrainianSettings gender number case apostrophe style) (now (text .entry))) (now (out .entry))) ⌝ }
     ensures { λ r. ⌜ r .length ≤ phraseRoom ⌝ }
 {
-    let n = refuse(gender, number, case, apostrophe, text);
+    let n = refuse(gender, number, case, apostrophe, style, text);
     if n == 0 {
         spell(
-            settings::ukrainian(gender, number, case, apostrophe),
+            settings::ukrainian(gender, number, case, apostrophe, style),
             text,
             out,
         )
@@ -100,13 +101,17 @@ pub fn measure_cardinal(
     number: u32,
     case: u32,
     apostrophe: u32,
+    style: u32,
     text: &[u8],
 ) -> Measure
-    ensures { λ r. ⌜ r ≡ measured (ukToCardinal (ukrainianSettings gender number case apostrophe) (now (text .entry))) ⌝ }
+    ensures { λ r. ⌜ r ≡ measured (ukToCardinal (ukrainianSettings gender number case apostrophe style) (now (text .entry))) ⌝ }
 {
-    let n = refuse(gender, number, case, apostrophe, text);
+    let n = refuse(gender, number, case, apostrophe, style, text);
     if n == 0 {
-        measure(settings::ukrainian(gender, number, case, apostrophe), text)
+        measure(
+            settings::ukrainian(gender, number, case, apostrophe, style),
+            text,
+        )
     } else {
         base::unmeasured(n)
     }
@@ -118,14 +123,15 @@ pub fn from_cardinal(
     number: u32,
     case: u32,
     apostrophe: u32,
+    style: u32,
     said: &[u8],
     out: &mut [u8],
 ) -> Answer
-    ensures { λ r. ⌜ ReadsAs (ukFromCardinal (ukrainianSettings gender number case apostrophe)) (now (said .entry)) r (now (out .entry)) (now (out .exit)) ⌝ }
+    ensures { λ r. ⌜ ReadsAs (ukFromCardinal (ukrainianSettings gender number case apostrophe style)) (now (said .entry)) r (now (out .entry)) (now (out .exit)) ⌝ }
 {
-    if settings::is_ukrainian(gender, number, case, apostrophe) {
+    if settings::is_ukrainian(gender, number, case, apostrophe, style) {
         read(
-            settings::ukrainian(gender, number, case, apostrophe),
+            settings::ukrainian(gender, number, case, apostrophe, style),
             said,
             out,
         )

@@ -5,12 +5,12 @@ use mathlib.Core.Path.{_≡_, refl}
 use mathlib.Core.List.{List}
 use native.Mathlib.Omega.{arith}
 use Rattle.base.specs.Join.{Word}
-use Rattle.settings.specs.Settings.{letterApostrophe, ukrainianSettings, ukrainianRanges, Within}
+use Rattle.settings.specs.Settings.{letterApostrophe, portedStyle, ukrainianSettings, ukrainianRanges, Within}
 use Rattle.settings.specs.declared.Settings.{Settings}
 use Rattle.uk_money.specs.Nouns.{Name, formOf, nameForms}
 
 unfoldable pub formsAt : Name → ℕ → List Word
-formsAt name p = nameForms (ukrainianSettings 0 (p / 6) (p % 6) letterApostrophe) name
+formsAt name p = nameForms (ukrainianSettings 0 (p / 6) (p % 6) letterApostrophe portedStyle) name
 
 -- where the form under some settings stands
 abbrev pub formPlace : Settings → ℕ

@@ -77,19 +77,20 @@ pub fn to_currency(
     number: u32,
     case: u32,
     apostrophe: u32,
+    style: u32,
     code: &[u8],
     text: &[u8],
     out: &mut [u8],
 ) -> Answer
-    ensures { λ r. ⌜ Answers r (now (out .entry)) (now (out .exit)) (replied (ukToCurrency (ukrainianSettings gender number case apostrophe) (now (code .entry)) (now (text .entry))) (now (out .entry))) ⌝ }
+    ensures { λ r. ⌜ Answers r (now (out .entry)) (now (out .exit)) (replied (ukToCurrency (ukrainianSettings gender number case apostrophe style) (now (code .entry)) (now (text .entry))) (now (out .entry))) ⌝ }
     ensures { λ r. ⌜ r .length ≤ phraseRoom ⌝ }
 {
-    if settings::is_ukrainian(gender, number, case, apostrophe) {
+    if settings::is_ukrainian(gender, number, case, apostrophe, style) {
         let currency = uk_money::code_of(code);
         if currency < CURRENCIES {
             let n = figures::refusals::number_of(figures::refusals::judge_amount(text));
             if n == 0 {
-                let settings = settings::ukrainian(gender, number, case, apostrophe);
+                let settings = settings::ukrainian(gender, number, case, apostrophe, style);
                 return spell(settings, currency, text, out);
             }
             return base::refused(n);
@@ -105,17 +106,18 @@ pub fn measure_currency(
     number: u32,
     case: u32,
     apostrophe: u32,
+    style: u32,
     code: &[u8],
     text: &[u8],
 ) -> Measure
-    ensures { λ r. ⌜ r ≡ measured (ukToCurrency (ukrainianSettings gender number case apostrophe) (now (code .entry)) (now (text .entry))) ⌝ }
+    ensures { λ r. ⌜ r ≡ measured (ukToCurrency (ukrainianSettings gender number case apostrophe style) (now (code .entry)) (now (text .entry))) ⌝ }
 {
-    if settings::is_ukrainian(gender, number, case, apostrophe) {
+    if settings::is_ukrainian(gender, number, case, apostrophe, style) {
         let currency = uk_money::code_of(code);
         if currency < CURRENCIES {
             let n = figures::refusals::number_of(figures::refusals::judge_amount(text));
             if n == 0 {
-                let settings = settings::ukrainian(gender, number, case, apostrophe);
+                let settings = settings::ukrainian(gender, number, case, apostrophe, style);
                 return measure(settings, currency, text);
             }
             return base::unmeasured(n);
@@ -131,16 +133,17 @@ pub fn from_currency(
     number: u32,
     case: u32,
     apostrophe: u32,
+    style: u32,
     code: &[u8],
     said: &[u8],
     out: &mut [u8],
 ) -> Answer
-    ensures { λ r. ⌜ ReadsAs (ukFromCurrency (ukrainianSettings gender number case apostrophe) (now (code .entry))) (now (said .entry)) r (now (out .entry)) (now (out .exit)) ⌝ }
+    ensures { λ r. ⌜ ReadsAs (ukFromCurrency (ukrainianSettings gender number case apostrophe style) (now (code .entry))) (now (said .entry)) r (now (out .entry)) (now (out .exit)) ⌝ }
 {
-    if settings::is_ukrainian(gender, number, case, apostrophe) {
+    if settings::is_ukrainian(gender, number, case, apostrophe, style) {
         let currency = uk_money::code_of(code);
         if currency < CURRENCIES {
-            let settings = settings::ukrainian(gender, number, case, apostrophe);
+            let settings = settings::ukrainian(gender, number, case, apostrophe, style);
             return read(settings, currency, said, out);
         }
         return base::refused(WRONG_CODE);

@@ -1,16 +1,16 @@
--- The words of a Ukrainian ordinal (01, "Ukrainian ordinals, years, codes"; `to_ordinal` in uk.rs).
+-- The words of a Ukrainian ordinal (01, "Ukrainian ordinals, years, codes"; `to_ordinal` in uk.rs), in both styles (02, W3).
 -- Assumes nothing.
 use Prim.Native.Nat.{ℕ, zero, suc, _-_, _*_, _/_, _%_, _^_}
 use mathlib.Core.Bool.{Bool, true, false, cond, not, _&&_}
 use mathlib.Core.List.{List, [], _∷_, _++_, flatten}
-use lib.Dec.{eqb}
+use lib.Dec.{eqb, ltb}
 use Rattle.base.specs.Join.{Word}
 use Rattle.base.specs.Utf8.{utf8, form1, form2}
-use Rattle.settings.specs.Settings.{masculine, singular, nominative, genitive, inGender, inCase}
+use Rattle.settings.specs.Settings.{masculine, singular, nominative, genitive, schoolStyle, inGender, inCase}
 use Rattle.settings.specs.declared.Settings.{Settings}
 use Rattle.cardinals.specs.Cardinal.{groupAt, groupsBelow}
 use Rattle.uk.specs.UkTables.{teensBases, megaBases}
-use Rattle.uk.specs.Apostrophes.{byApostrophe1}
+use Rattle.uk.specs.Apostrophes.{withApostrophe, byApostrophe1, signAt}
 use Rattle.uk.specs.Rules.{DigitWords, opt, numWords}
 use Rattle.uk.specs.Ukrainian.{unitForm, ukrainianDigits, ukrainianOrders, ukrainian}
 use Rattle.uk_ordinal.specs.OrdinalTables.{ordinalZeroBase, oneBase, ordinalUnitBases, ordinalTensBases, hundredBase, adjectiveHardFlexionsSingular, adjectiveHardFlexionsPlural, adjectiveSoftFlexionsSingular, adjectiveSoftFlexionsPlural}
@@ -31,11 +31,15 @@ inNominative S = inGender masculine (inCase nominative S)
 abbrev pub inGenitive : Settings → Settings
 inGenitive S = inGender masculine (inCase genitive S)
 
--- the words of digits in a compound: "unit 1 is `ONE_BASE`"
+-- ordinals "as taught in school" are asked for (02, W3)
+abbrev pub school : Settings → Bool
+school S = eqb (S .style) schoolStyle
+
+-- the words of digits in a compound: "unit 1 is `ONE_BASE`"; in school "a hundreds digit of 1 is `сто` and a tens digit of 9 is `девʼяносто`" (02, W3)
 unfoldable pub compoundDigits : Settings → DigitWords
 compoundDigits S = record {
-  hundred = ukrainianDigits (inGenitive S) .hundred;
-  ten = ukrainianDigits (inGenitive S) .ten;
+  hundred = λ h. cond (school S && eqb h 1) (utf8 "сто") (ukrainianDigits (inGenitive S) .hundred h);
+  ten = λ t. cond (school S && eqb t 9) (utf8 (withApostrophe (signAt (S .apostrophe)) "девʼяносто")) (ukrainianDigits (inGenitive S) .ten t);
   teen = ukrainianDigits (inGenitive S) .teen;
   unit = λ u. cond (eqb u 1) (utf8 oneBase) (unitForm (inGenitive S) u);
 }
@@ -57,11 +61,15 @@ tailWords S ending t u =
     (cond (eqb u 0) ((form2 (byApostrophe1 ordinalTensBases) (S .apostrophe) (t - 1) ++ ending) ∷ [])
     (opt (ukrainianDigits (inNominative S) .ten) t ++ ((form2 (byApostrophe1 ordinalUnitBases) (S .apostrophe) (u - 1) ++ ending) ∷ [])))
 
--- the lowest group g at order 0: "a group ending in 00 writes only `HUNDRED_BASE` and ending; any other writes the nominative hundred word if any",
--- then tens and units
+-- what stands before `HUNDRED_BASE` in a group of h hundreds at order 0: nothing, but in school of "200 to 900" "the genitive of its hundreds digit" (02, W3)
+abbrev pub hundredCount : Settings → ℕ → Word
+hundredCount S h = cond (school S && ltb 1 h) (unitForm (inGenitive S) h) []
+
+-- the lowest group g at order 0: "a group ending in 00 writes only `HUNDRED_BASE` and ending" behind its count, if any, "as a single word" (02, W3);
+-- "any other writes the nominative hundred word if any", then tens and units
 unfoldable pub plainWords : Settings → Word → ℕ → List Word
 plainWords S ending g =
-    cond (eqb (g % 100) 0) ((utf8 hundredBase ++ ending) ∷ [])
+    cond (eqb (g % 100) 0) ((hundredCount S (g / 100 % 10) ++ (utf8 hundredBase ++ ending)) ∷ [])
     (opt (ukrainianDigits (inNominative S) .hundred) (g / 100 % 10) ++ tailWords S ending (g / 10 % 10) (g % 10))
 
 -- the lowest nonzero group g at its order, the number above it being rest: it "carries the ending"

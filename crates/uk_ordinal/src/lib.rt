@@ -6,11 +6,13 @@ mod pool; // pool.rt: the endings of digit ordinals, which have a pool of their 
 use settings::GENITIVE;
 use settings::MASCULINE;
 use settings::NOMINATIVE;
+use settings::SCHOOL_STYLE;
 use settings::SINGULAR;
 use settings::Settings;
 ghost use mathlib.Core.Path.{_≡_};
-ghost use mathlib.Core.Bool.{true, false};
+ghost use mathlib.Core.Bool.{true, false, cond, _&&_};
 ghost use Prim.Native.Nat.{_-_, _≤_, _<_};
+ghost use lib.Dec.{eqb};
 ghost use lib.ListN.{length};
 ghost use Rattle.base.specs.Buffer.{over};
 ghost use Rattle.base.specs.Utf8.{utf8, form2};
@@ -20,9 +22,14 @@ ghost use Rattle.uk.specs.Apostrophes.{byApostrophe1};
 ghost use Rattle.uk.specs.Pool.{ukPool};
 ghost use Rattle.uk_ordinal.specs.Pool.{shortPool};
 ghost use Rattle.uk_ordinal.specs.OrdinalTables.{ordinalZeroBase, oneBase, hundredBase, ordinalUnitBases, ordinalTensBases};
-ghost use Rattle.uk_ordinal.specs.Ordinal.{soft as softOf, flexion, inNominative, inGenitive};
+ghost use Rattle.uk_ordinal.specs.Ordinal.{soft as softOf, flexion, school as schoolOf, inNominative, inGenitive, compoundDigits};
 ghost use Rattle.uk_ordinal.specs.Year.{yearNoun};
 ghost use Rattle.uk_ordinal.specs.DigitOrdinal.{shortFlexion};
+
+// The digit of the hundreds and that of the tens that are nominative in a compound of school: сто and девʼяносто.
+const NOMINATIVE_HUNDRED: usize = 1;
+
+const NOMINATIVE_TEN: usize = 9;
 
 // The base of zero, of 1 in a compound, and of a round hundred.
 pub fn zero_base() -> u16
@@ -79,6 +86,41 @@ pub fn in_genitive(settings: Settings) -> Settings
 {
     let form = settings::in_form(settings.number, GENITIVE, settings);
     settings::in_gender(MASCULINE, form)
+}
+
+// Whether the settings ask for ordinals as taught in school.
+pub fn is_school(settings: Settings) -> bool
+    ensures { λ r. ⌜ r ≡ schoolOf settings ⌝ }
+{
+    settings.style == SCHOOL_STYLE
+}
+
+// The settings of a compound's word for a digit: in school one digit of the hundreds and one of the tens is nominative there.
+fn in_compound(settings: Settings, digit: usize, nominative: usize) -> Settings
+    requires { ⌜ Within (ukrainianRanges settings) ⌝ }
+    ensures { λ r. ⌜ (r ≡ cond (schoolOf settings && eqb digit nominative) (inNominative settings) (inGenitive settings)) × Within (ukrainianRanges r) ⌝ }
+{
+    if is_school(settings) {
+        if digit == nominative {
+            return in_nominative(settings);
+        }
+    }
+    in_genitive(settings)
+}
+
+// The word of a hundreds digit in a compound, and of a tens digit above 1.
+pub fn compound_hundred(settings: Settings, h: usize) -> u16
+    requires { ⌜ Within (ukrainianRanges settings) × (0 < h) × (h < 10) ⌝ }
+    ensures { λ r. ⌜ part ukPool r ≡ compoundDigits settings .hundred h ⌝ }
+{
+    uk::hundred(in_compound(settings, h, NOMINATIVE_HUNDRED), h)
+}
+
+pub fn compound_ten(settings: Settings, t: usize) -> u16
+    requires { ⌜ Within (ukrainianRanges settings) × (1 < t) × (t < 10) ⌝ }
+    ensures { λ r. ⌜ part ukPool r ≡ compoundDigits settings .ten t ⌝ }
+{
+    uk::ten(in_compound(settings, t, NOMINATIVE_TEN), t)
 }
 
 // Whether the ordinal of a number with these last two digits has a soft ending.

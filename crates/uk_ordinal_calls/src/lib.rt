@@ -1,5 +1,6 @@
-// Ukrainian ordinals, digit ordinals and years from bytes to bytes, and their measures. No phrase is longer than the room that the program keeps for an answer.
+// Ukrainian ordinals, digit ordinals and years from bytes to bytes, and their measures; of ordinals and years the way back. No phrase is longer than the room that the program keeps for an answer.
 mod digits; // digits.rt: digit ordinals
+pub mod reading; // reading.rt: the way back
 
 use base::Answer;
 use base::Measure;
@@ -29,10 +30,17 @@ fn is_early(year: i64) -> bool
 }
 
 // The refusal of an ordinal's settings and text, 0 for none.
-fn refuse_ordinal(gender: u32, number: u32, case: u32, apostrophe: u32, text: &[u8]) -> u32
-    ensures { λ r. ⌜ r ≡ ukToOrdinal (ukrainianSettings gender number case apostrophe) (now (text .entry)) .refusal ⌝ }
+fn refuse_ordinal(
+    gender: u32,
+    number: u32,
+    case: u32,
+    apostrophe: u32,
+    style: u32,
+    text: &[u8],
+) -> u32
+    ensures { λ r. ⌜ r ≡ ukToOrdinal (ukrainianSettings gender number case apostrophe style) (now (text .entry)) .refusal ⌝ }
 {
-    if settings::is_ukrainian(gender, number, case, apostrophe) {
+    if settings::is_ukrainian(gender, number, case, apostrophe, style) {
         figures::refusals::number_of(figures::refusals::judge_ordinal(text, DIGITS))
     } else {
         WRONG_SETTING
@@ -40,10 +48,17 @@ fn refuse_ordinal(gender: u32, number: u32, case: u32, apostrophe: u32, text: &[
 }
 
 // The refusal of a digit ordinal's settings and text, 0 for none.
-fn refuse_digit_ordinal(gender: u32, number: u32, case: u32, apostrophe: u32, text: &[u8]) -> u32
-    ensures { λ r. ⌜ r ≡ ukToOrdinalNum (ukrainianSettings gender number case apostrophe) (now (text .entry)) .refusal ⌝ }
+fn refuse_digit_ordinal(
+    gender: u32,
+    number: u32,
+    case: u32,
+    apostrophe: u32,
+    style: u32,
+    text: &[u8],
+) -> u32
+    ensures { λ r. ⌜ r ≡ ukToOrdinalNum (ukrainianSettings gender number case apostrophe style) (now (text .entry)) .refusal ⌝ }
 {
-    if settings::is_ukrainian(gender, number, case, apostrophe) {
+    if settings::is_ukrainian(gender, number, case, apostrophe, style) {
         figures::refusals::number_of(figures::refusals::judge_digit_ordinal(text))
     } else {
         WRONG_SETTING
@@ -104,16 +119,17 @@ pub fn to_ordinal(
     number: u32,
     case: u32,
     apostrophe: u32,
+    style: u32,
     text: &[u8],
     out: &mut [u8],
 ) -> Answer
-    ensures { λ r. ⌜ Answers r (now (out .entry)) (now (out .exit)) (replied (ukToOrdinal (ukrainianSettings gender number case apostrophe) (now (text .entry))) (now (out .entry))) ⌝ }
+    ensures { λ r. ⌜ Answers r (now (out .entry)) (now (out .exit)) (replied (ukToOrdinal (ukrainianSettings gender number case apostrophe style) (now (text .entry))) (now (out .entry))) ⌝ }
     ensures { λ r. ⌜ r .length ≤ phraseRoom ⌝ }
 {
-    let n = refuse_ordinal(gender, number, case, apostrophe, text);
+    let n = refuse_ordinal(gender, number, case, apostrophe, style, text);
     if n == 0 {
         say_ordinal(
-            settings::ukrainian(gender, number, case, apostrophe),
+            settings::ukrainian(gender, number, case, apostrophe, style),
             text,
             out,
         )
@@ -123,12 +139,22 @@ pub fn to_ordinal(
 }
 
 // What that phrase measures.
-pub fn measure_ordinal(gender: u32, number: u32, case: u32, apostrophe: u32, text: &[u8]) -> Measure
-    ensures { λ r. ⌜ r ≡ measured (ukToOrdinal (ukrainianSettings gender number case apostrophe) (now (text .entry))) ⌝ }
+pub fn measure_ordinal(
+    gender: u32,
+    number: u32,
+    case: u32,
+    apostrophe: u32,
+    style: u32,
+    text: &[u8],
+) -> Measure
+    ensures { λ r. ⌜ r ≡ measured (ukToOrdinal (ukrainianSettings gender number case apostrophe style) (now (text .entry))) ⌝ }
 {
-    let n = refuse_ordinal(gender, number, case, apostrophe, text);
+    let n = refuse_ordinal(gender, number, case, apostrophe, style, text);
     if n == 0 {
-        ordinal_measure(settings::ukrainian(gender, number, case, apostrophe), text)
+        ordinal_measure(
+            settings::ukrainian(gender, number, case, apostrophe, style),
+            text,
+        )
     } else {
         base::unmeasured(n)
     }
@@ -140,16 +166,17 @@ pub fn to_ordinal_num(
     number: u32,
     case: u32,
     apostrophe: u32,
+    style: u32,
     text: &[u8],
     out: &mut [u8],
 ) -> Answer
-    ensures { λ r. ⌜ Answers r (now (out .entry)) (now (out .exit)) (replied (ukToOrdinalNum (ukrainianSettings gender number case apostrophe) (now (text .entry))) (now (out .entry))) ⌝ }
+    ensures { λ r. ⌜ Answers r (now (out .entry)) (now (out .exit)) (replied (ukToOrdinalNum (ukrainianSettings gender number case apostrophe style) (now (text .entry))) (now (out .entry))) ⌝ }
     ensures { λ r. ⌜ r .length ≤ phraseRoom ⌝ }
 {
-    let n = refuse_digit_ordinal(gender, number, case, apostrophe, text);
+    let n = refuse_digit_ordinal(gender, number, case, apostrophe, style, text);
     if n == 0 {
         digits::say(
-            settings::ukrainian(gender, number, case, apostrophe),
+            settings::ukrainian(gender, number, case, apostrophe, style),
             text,
             out,
         )
@@ -164,13 +191,17 @@ pub fn measure_ordinal_num(
     number: u32,
     case: u32,
     apostrophe: u32,
+    style: u32,
     text: &[u8],
 ) -> Measure
-    ensures { λ r. ⌜ r ≡ measured (ukToOrdinalNum (ukrainianSettings gender number case apostrophe) (now (text .entry))) ⌝ }
+    ensures { λ r. ⌜ r ≡ measured (ukToOrdinalNum (ukrainianSettings gender number case apostrophe style) (now (text .entry))) ⌝ }
 {
-    let n = refuse_digit_ordinal(gender, number, case, apostrophe, text);
+    let n = refuse_digit_ordinal(gender, number, case, apostrophe, style, text);
     if n == 0 {
-        let size = digits::size(settings::ukrainian(gender, number, case, apostrophe), text);
+        let size = digits::size(
+            settings::ukrainian(gender, number, case, apostrophe, style),
+            text,
+        );
         base::measure_of(0, size)
     } else {
         base::unmeasured(n)
@@ -183,15 +214,16 @@ pub fn to_year(
     number: u32,
     case: u32,
     apostrophe: u32,
+    style: u32,
     year: i64,
     out: &mut [u8],
 ) -> Answer
-    ensures { λ r. ⌜ Answers r (now (out .entry)) (now (out .exit)) (replied (ukToYear (ukrainianSettings gender number case apostrophe) year) (now (out .entry))) ⌝ }
+    ensures { λ r. ⌜ Answers r (now (out .entry)) (now (out .exit)) (replied (ukToYear (ukrainianSettings gender number case apostrophe style) year) (now (out .entry))) ⌝ }
     ensures { λ r. ⌜ r .length ≤ phraseRoom ⌝ }
 {
-    if settings::is_ukrainian(gender, number, case, apostrophe) {
+    if settings::is_ukrainian(gender, number, case, apostrophe, style) {
         say_year(
-            settings::ukrainian(gender, number, case, apostrophe),
+            settings::ukrainian(gender, number, case, apostrophe, style),
             year,
             out,
         )
@@ -201,11 +233,21 @@ pub fn to_year(
 }
 
 // What it measures.
-pub fn measure_year(gender: u32, number: u32, case: u32, apostrophe: u32, year: i64) -> Measure
-    ensures { λ r. ⌜ r ≡ measured (ukToYear (ukrainianSettings gender number case apostrophe) year) ⌝ }
+pub fn measure_year(
+    gender: u32,
+    number: u32,
+    case: u32,
+    apostrophe: u32,
+    style: u32,
+    year: i64,
+) -> Measure
+    ensures { λ r. ⌜ r ≡ measured (ukToYear (ukrainianSettings gender number case apostrophe style) year) ⌝ }
 {
-    if settings::is_ukrainian(gender, number, case, apostrophe) {
-        year_measure(settings::ukrainian(gender, number, case, apostrophe), year)
+    if settings::is_ukrainian(gender, number, case, apostrophe, style) {
+        year_measure(
+            settings::ukrainian(gender, number, case, apostrophe, style),
+            year,
+        )
     } else {
         base::unmeasured(WRONG_SETTING)
     }

@@ -61,12 +61,7 @@ fn count_low(
             uk::teen_ending(uk_ordinal::in_genitive(settings)),
         );
     }
-    let k = push(
-        plan,
-        at,
-        separator,
-        uk::ten(uk_ordinal::in_genitive(settings), t),
-    );
+    let k = push(plan, at, separator, uk_ordinal::compound_ten(settings, t));
     count_unit(settings, u, ON, plan, k)
 }
 
@@ -78,12 +73,7 @@ fn count(settings: Settings, h: usize, t: usize, u: usize, plan: &mut [u32], at:
     if h == 0 {
         return count_low(settings, t, u, SPACE, plan, at);
     }
-    let k = push(
-        plan,
-        at,
-        SPACE,
-        uk::hundred(uk_ordinal::in_genitive(settings), h),
-    );
+    let k = push(plan, at, SPACE, uk_ordinal::compound_hundred(settings, h));
     count_low(settings, t, u, ON, plan, k)
 }
 

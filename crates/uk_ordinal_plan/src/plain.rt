@@ -5,8 +5,10 @@ use uk_plan::ON;
 use uk_plan::SPACE;
 use uk_plan::hundred_word;
 ghost use mathlib.Core.Path.{_≡_};
+ghost use mathlib.Core.Bool.{_&&_};
 ghost use mathlib.Core.List.{[], _∷_, _++_};
 ghost use Prim.Native.Nat.{_+_, _≤_, _<_};
+ghost use lib.Dec.{ltb};
 ghost use lib.ListN.{length};
 ghost use Rattle.settings.specs.Settings.{ukrainianRanges, Within};
 ghost use Rattle.base.specs.Utf8.{utf8};
@@ -15,8 +17,8 @@ ghost use Rattle.uk.specs.Pool.{ukPool};
 ghost use Rattle.plan.specs.Speaks.{Told};
 ghost use Rattle.uk.specs.Rules.{opt};
 ghost use Rattle.uk.specs.Ukrainian.{ukrainianDigits};
-ghost use Rattle.uk_ordinal.specs.OrdinalTables.{ordinalZeroBase};
-ghost use Rattle.uk_ordinal.specs.Ordinal.{inNominative, tailWords, plainWords};
+ghost use Rattle.uk_ordinal.specs.OrdinalTables.{ordinalZeroBase, hundredBase};
+ghost use Rattle.uk_ordinal.specs.Ordinal.{inNominative, school, tailWords, hundredCount, plainWords};
 
 // The nominative tens word, if any.
 fn ten_word(settings: Settings, t: usize, plan: &mut [u32], at: usize) -> usize
@@ -59,14 +61,39 @@ fn tail_words(
     push(plan, b, ON, ending)
 }
 
+// Whether a count stands before the base of so many hundreds.
+fn counts_hundreds(settings: Settings, h: usize) -> bool
+    ensures { λ r. ⌜ r ≡ (school settings && ltb 1 h) ⌝ }
+{
+    if uk_ordinal::is_school(settings) {
+        1 < h
+    } else {
+        false
+    }
+}
+
+// A group of h hundreds: in school the count before the base is its unit's genitive, from 2 on.
+fn round_word(settings: Settings, h: usize, ending: u16, plan: &mut [u32], at: usize) -> usize
+    requires { ⌜ Within (ukrainianRanges settings) × (h < 10) × (at + 3 ≤ length (now plan)) ⌝ }
+    ensures { λ r. ⌜ Told ukPool 3 (now (plan .entry)) at (now (plan .exit)) r ((hundredCount settings h ++ (utf8 hundredBase ++ part ukPool ending)) ∷ []) ⌝ }
+{
+    if counts_hundreds(settings, h) {
+        let unit = uk::unit(uk_ordinal::in_genitive(settings), h);
+        let a = push(plan, at, SPACE, unit);
+        let b = push(plan, a, ON, uk_ordinal::hundred_base());
+        return push(plan, b, ON, ending);
+    }
+    let a = push(plan, at, SPACE, uk_ordinal::hundred_base());
+    push(plan, a, ON, ending)
+}
+
 // The lowest group at order 0.
 pub fn plain_words(settings: Settings, g: usize, ending: u16, plan: &mut [u32], at: usize) -> usize
     requires { ⌜ Within (ukrainianRanges settings) × (at + 4 ≤ length (now plan)) ⌝ }
     ensures { λ r. ⌜ Told ukPool 4 (now (plan .entry)) at (now (plan .exit)) r (plainWords settings (part ukPool ending) g) ⌝ }
 {
     if g % 100 == 0 {
-        let a = push(plan, at, SPACE, uk_ordinal::hundred_base());
-        return push(plan, a, ON, ending);
+        return round_word(settings, g / 100 % 10, ending, plan, at);
     }
     let a = hundred_word(uk_ordinal::in_nominative(settings), g / 100 % 10, plan, at);
     tail_words(settings, g / 10 % 10, g % 10, ending, plan, a)

@@ -13,14 +13,14 @@ use Rattle.fr_calls.proofs.Theorems as fr-theorems
 use Rattle.yokepear.specs.Calls.{toCardinal, toCurrency, toFrenchCardinal, toFrenchOrdinal, spellingOf, fromCardinal, fromCurrency, fromFrenchCardinal, fromFrenchOrdinal, readingOf}
 
 -- Ukrainian cardinals
-pub ukrainian-cardinals : (gender number case apostrophe : ℕ) → readingOf (fromCardinal gender number case apostrophe) .refusal ≡ 0
-    → Inverse (λ (t : List ℕ). Admitted (cardinalRefusals ukrainianDigitLimit t)) (λ (t : List ℕ). spellingOf (toCardinal gender number case apostrophe t)) (readingOf (fromCardinal gender number case apostrophe))
-ukrainian-cardinals gender number case apostrophe = uk-theorem.cardinals (ukrainianSettings gender number case apostrophe)
+pub ukrainian-cardinals : (gender number case apostrophe style : ℕ) → readingOf (fromCardinal gender number case apostrophe style) .refusal ≡ 0
+    → Inverse (λ (t : List ℕ). Admitted (cardinalRefusals ukrainianDigitLimit t)) (λ (t : List ℕ). spellingOf (toCardinal gender number case apostrophe style t)) (readingOf (fromCardinal gender number case apostrophe style))
+ukrainian-cardinals gender number case apostrophe style = uk-theorem.cardinals (ukrainianSettings gender number case apostrophe style)
 
 -- Ukrainian money
-pub ukrainian-money : (gender number case apostrophe : ℕ) (code : List ℕ) → readingOf (fromCurrency gender number case apostrophe code) .refusal ≡ 0
-    → Inverse (λ (t : List ℕ). Admitted (amountRefusals t)) (λ (t : List ℕ). spellingOf (toCurrency gender number case apostrophe code t)) (readingOf (fromCurrency gender number case apostrophe code))
-ukrainian-money gender number case apostrophe = uk-money-theorem.money (ukrainianSettings gender number case apostrophe)
+pub ukrainian-money : (gender number case apostrophe style : ℕ) (code : List ℕ) → readingOf (fromCurrency gender number case apostrophe style code) .refusal ≡ 0
+    → Inverse (λ (t : List ℕ). Admitted (amountRefusals t)) (λ (t : List ℕ). spellingOf (toCurrency gender number case apostrophe style code t)) (readingOf (fromCurrency gender number case apostrophe style code))
+ukrainian-money gender number case apostrophe style = uk-money-theorem.money (ukrainianSettings gender number case apostrophe style)
 
 -- French cardinals
 pub french-cardinals : (feminine reformed region : ℕ) → readingOf (fromFrenchCardinal feminine reformed region) .refusal ≡ 0

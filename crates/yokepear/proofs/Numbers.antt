@@ -43,11 +43,11 @@ module _ (P : ℕ → Type 0) (none-is : P 0) (setting-is : P wrongSetting) (cod
   unknown-is (some c) = code-is
 
   refusal-is : P malformed → P wrongSign → P tooLarge → (call : SpellingCall) → P (spellingOf call .refusal)
-  refusal-is text sign size (toCardinal gender number case apostrophe t) = settings-then (ukrainianRanges (ukrainianSettings gender number case apostrophe)) (cardinalRefusals ukrainianDigitLimit t) (text, (size, tt))
-  refusal-is text sign size (toOrdinal gender number case apostrophe t) = settings-then (ukrainianRanges (ukrainianSettings gender number case apostrophe)) (ordinalRefusals ukrainianDigitLimit t) (text, (sign, (size, tt)))
-  refusal-is text sign size (toOrdinalNum gender number case apostrophe t) = settings-then (ukrainianRanges (ukrainianSettings gender number case apostrophe)) (digitOrdinalRefusals t) (text, (sign, (size, tt)))
-  refusal-is text sign size (toYear gender number case apostrophe y) = settings-then (ukrainianRanges (ukrainianSettings gender number case apostrophe)) [] tt
-  refusal-is text sign size (toCurrency gender number case apostrophe code t) = settings-then (ukrainianRanges (ukrainianSettings gender number case apostrophe)) (unknown (currencyOf code) ∷ amountRefusals t) (unknown-is (currencyOf code), (text, (sign, (size, tt))))
+  refusal-is text sign size (toCardinal gender number case apostrophe style t) = settings-then (ukrainianRanges (ukrainianSettings gender number case apostrophe style)) (cardinalRefusals ukrainianDigitLimit t) (text, (size, tt))
+  refusal-is text sign size (toOrdinal gender number case apostrophe style t) = settings-then (ukrainianRanges (ukrainianSettings gender number case apostrophe style)) (ordinalRefusals ukrainianDigitLimit t) (text, (sign, (size, tt)))
+  refusal-is text sign size (toOrdinalNum gender number case apostrophe style t) = settings-then (ukrainianRanges (ukrainianSettings gender number case apostrophe style)) (digitOrdinalRefusals t) (text, (sign, (size, tt)))
+  refusal-is text sign size (toYear gender number case apostrophe style y) = settings-then (ukrainianRanges (ukrainianSettings gender number case apostrophe style)) [] tt
+  refusal-is text sign size (toCurrency gender number case apostrophe style code t) = settings-then (ukrainianRanges (ukrainianSettings gender number case apostrophe style)) (unknown (currencyOf code) ∷ amountRefusals t) (unknown-is (currencyOf code), (text, (sign, (size, tt))))
   refusal-is text sign size (toFrenchCardinal feminine reformed region t) = settings-then (frenchRanges (frenchSettings feminine reformed region)) (cardinalRefusals frenchDigitLimit t) (text, (size, tt))
   refusal-is text sign size (toFrenchOrdinal feminine reformed region t) = settings-then (frenchRanges (frenchSettings feminine reformed region)) (ordinalRefusals frenchDigitLimit t) (text, (sign, (size, tt)))
 
@@ -70,8 +70,8 @@ module _ (P : ℕ → Type 0) (none-is : P 0) (setting-is : P wrongSetting) (cod
     reading-is six call {s} {xs} (earlier f) = go call
       where
         go : (call : ReadingCall) → P (readingOf call .refusal)
-        go (fromCardinal gender number case apostrophe) = settings-then (ukrainianRanges (ukrainianSettings gender number case apostrophe)) [] tt
-        go (fromCurrency gender number case apostrophe code) = settings-then (ukrainianRanges (ukrainianSettings gender number case apostrophe)) (unknown (currencyOf code) ∷ []) (unknown-is (currencyOf code), tt)
+        go (fromCardinal gender number case apostrophe style) = settings-then (ukrainianRanges (ukrainianSettings gender number case apostrophe style)) [] tt
+        go (fromCurrency gender number case apostrophe style code) = settings-then (ukrainianRanges (ukrainianSettings gender number case apostrophe style)) (unknown (currencyOf code) ∷ []) (unknown-is (currencyOf code), tt)
         go (fromFrenchCardinal feminine reformed region) = settings-then (frenchRanges (frenchSettings feminine reformed region)) [] tt
         go (fromFrenchOrdinal feminine reformed region) = settings-then (frenchRanges (frenchSettings feminine reformed region)) [] tt
     reading-is six call {s} {xs} (sentence z t m) = fitted-is xs t

@@ -73,11 +73,11 @@ year S y e = joined-solid space (yearWords S y) (year-words-solid S (in-range (u
 
 -- of every call
 phrase-solid : (call : SpellingCall) → spellingOf call .refusal ≡ 0 → Solid (spellingOf call .phrase)
-phrase-solid (toCardinal gender number case apostrophe text) = cardinal (ukrainianSettings gender number case apostrophe) text
-phrase-solid (toOrdinal gender number case apostrophe text) = ordinal (ukrainianSettings gender number case apostrophe) text
-phrase-solid (toOrdinalNum gender number case apostrophe text) = digit-ordinal (ukrainianSettings gender number case apostrophe) text
-phrase-solid (toYear gender number case apostrophe y) = year (ukrainianSettings gender number case apostrophe) y
-phrase-solid (toCurrency gender number case apostrophe code text) = money (ukrainianSettings gender number case apostrophe) text code
+phrase-solid (toCardinal gender number case apostrophe style text) = cardinal (ukrainianSettings gender number case apostrophe style) text
+phrase-solid (toOrdinal gender number case apostrophe style text) = ordinal (ukrainianSettings gender number case apostrophe style) text
+phrase-solid (toOrdinalNum gender number case apostrophe style text) = digit-ordinal (ukrainianSettings gender number case apostrophe style) text
+phrase-solid (toYear gender number case apostrophe style y) = year (ukrainianSettings gender number case apostrophe style) y
+phrase-solid (toCurrency gender number case apostrophe style code text) = money (ukrainianSettings gender number case apostrophe style) text code
 phrase-solid (toFrenchCardinal feminine reformed region text) = french-cardinals (frenchSettings feminine reformed region) text
 phrase-solid (toFrenchOrdinal feminine reformed region text) = french-ordinal (frenchSettings feminine reformed region) text
 

@@ -11,41 +11,45 @@ use Rattle.base.specs.Reading.{Reading, Reads}
 use Rattle.base.specs.declared.Answer.{Answer}
 use Rattle.settings.specs.Settings.{ukrainianSettings, frenchSettings}
 use Rattle.uk_calls.specs.UkCardinals.{ukToCardinal, ukFromCardinal}
-use Rattle.uk_ordinal_calls.specs.UkOrdinals.{ukToOrdinal, ukToOrdinalNum, ukToYear}
+use Rattle.uk_ordinal_calls.specs.UkOrdinals.{ukToOrdinal, ukToOrdinalNum, ukToYear, ukFromOrdinal, ukFromYear}
 use Rattle.uk_money_calls.specs.MoneyCalls.{ukToCurrency, ukFromCurrency}
 use Rattle.fr_calls.specs.FrCalls.{frToCardinal, frToOrdinal, frFromCardinal, frFromOrdinal}
 
 -- the spelling calls, each with the numbers and the input that it is given
 pub data SpellingCall : Type 0 where
-  toCardinal : (gender number case apostrophe : ℕ) (text : List ℕ) → SpellingCall
-  toOrdinal : (gender number case apostrophe : ℕ) (text : List ℕ) → SpellingCall
-  toOrdinalNum : (gender number case apostrophe : ℕ) (text : List ℕ) → SpellingCall
-  toYear : (gender number case apostrophe : ℕ) (year : ℤ) → SpellingCall
-  toCurrency : (gender number case apostrophe : ℕ) (code text : List ℕ) → SpellingCall
+  toCardinal : (gender number case apostrophe style : ℕ) (text : List ℕ) → SpellingCall
+  toOrdinal : (gender number case apostrophe style : ℕ) (text : List ℕ) → SpellingCall
+  toOrdinalNum : (gender number case apostrophe style : ℕ) (text : List ℕ) → SpellingCall
+  toYear : (gender number case apostrophe style : ℕ) (year : ℤ) → SpellingCall
+  toCurrency : (gender number case apostrophe style : ℕ) (code text : List ℕ) → SpellingCall
   toFrenchCardinal : (feminine reformed region : ℕ) (text : List ℕ) → SpellingCall
   toFrenchOrdinal : (feminine reformed region : ℕ) (text : List ℕ) → SpellingCall
 
 -- what each comes to
 abbrev pub spellingOf : SpellingCall → Spelling
-spellingOf (toCardinal gender number case apostrophe text) = ukToCardinal (ukrainianSettings gender number case apostrophe) text
-spellingOf (toOrdinal gender number case apostrophe text) = ukToOrdinal (ukrainianSettings gender number case apostrophe) text
-spellingOf (toOrdinalNum gender number case apostrophe text) = ukToOrdinalNum (ukrainianSettings gender number case apostrophe) text
-spellingOf (toYear gender number case apostrophe year) = ukToYear (ukrainianSettings gender number case apostrophe) year
-spellingOf (toCurrency gender number case apostrophe code text) = ukToCurrency (ukrainianSettings gender number case apostrophe) code text
+spellingOf (toCardinal gender number case apostrophe style text) = ukToCardinal (ukrainianSettings gender number case apostrophe style) text
+spellingOf (toOrdinal gender number case apostrophe style text) = ukToOrdinal (ukrainianSettings gender number case apostrophe style) text
+spellingOf (toOrdinalNum gender number case apostrophe style text) = ukToOrdinalNum (ukrainianSettings gender number case apostrophe style) text
+spellingOf (toYear gender number case apostrophe style year) = ukToYear (ukrainianSettings gender number case apostrophe style) year
+spellingOf (toCurrency gender number case apostrophe style code text) = ukToCurrency (ukrainianSettings gender number case apostrophe style) code text
 spellingOf (toFrenchCardinal feminine reformed region text) = frToCardinal (frenchSettings feminine reformed region) text
 spellingOf (toFrenchOrdinal feminine reformed region text) = frToOrdinal (frenchSettings feminine reformed region) text
 
 -- the reading calls, each with what it is given besides the phrase
 pub data ReadingCall : Type 0 where
-  fromCardinal : (gender number case apostrophe : ℕ) → ReadingCall
-  fromCurrency : (gender number case apostrophe : ℕ) (code : List ℕ) → ReadingCall
+  fromCardinal : (gender number case apostrophe style : ℕ) → ReadingCall
+  fromOrdinal : (gender number case apostrophe style : ℕ) → ReadingCall
+  fromYear : (gender number case apostrophe style : ℕ) → ReadingCall
+  fromCurrency : (gender number case apostrophe style : ℕ) (code : List ℕ) → ReadingCall
   fromFrenchCardinal : (feminine reformed region : ℕ) → ReadingCall
   fromFrenchOrdinal : (feminine reformed region : ℕ) → ReadingCall
 
 -- what each comes to
 abbrev pub readingOf : ReadingCall → Reading
-readingOf (fromCardinal gender number case apostrophe) = ukFromCardinal (ukrainianSettings gender number case apostrophe)
-readingOf (fromCurrency gender number case apostrophe code) = ukFromCurrency (ukrainianSettings gender number case apostrophe) code
+readingOf (fromCardinal gender number case apostrophe style) = ukFromCardinal (ukrainianSettings gender number case apostrophe style)
+readingOf (fromOrdinal gender number case apostrophe style) = ukFromOrdinal (ukrainianSettings gender number case apostrophe style)
+readingOf (fromYear gender number case apostrophe style) = ukFromYear (ukrainianSettings gender number case apostrophe style)
+readingOf (fromCurrency gender number case apostrophe style code) = ukFromCurrency (ukrainianSettings gender number case apostrophe style) code
 readingOf (fromFrenchCardinal feminine reformed region) = frFromCardinal (frenchSettings feminine reformed region)
 readingOf (fromFrenchOrdinal feminine reformed region) = frFromOrdinal (frenchSettings feminine reformed region)
 

@@ -7,7 +7,7 @@ ghost use mathlib.Core.Path.{_≡_};
 ghost use Rattle.base.specs.Answer.{replied, Answers};
 ghost use Rattle.base.specs.Measure.{measured};
 ghost use Rattle.base.specs.Reading.{Reads};
-ghost use Rattle.yokepear.specs.Calls.{toCardinal, toOrdinal, toOrdinalNum, toYear, toCurrency, toFrenchCardinal, toFrenchOrdinal, spellingOf, fromCardinal, fromCurrency, fromFrenchCardinal, fromFrenchOrdinal, readingOf};
+ghost use Rattle.yokepear.specs.Calls.{toCardinal, toOrdinal, toOrdinalNum, toYear, toCurrency, toFrenchCardinal, toFrenchOrdinal, spellingOf, fromCardinal, fromOrdinal, fromYear, fromCurrency, fromFrenchCardinal, fromFrenchOrdinal, readingOf};
 
 // The cardinal of a number text.
 #[no_mangle]
@@ -16,12 +16,13 @@ pub extern "C" fn yokepear_uk_to_cardinal(
     number: u32,
     case: u32,
     apostrophe: u32,
+    style: u32,
     text: &[u8],
     out: &mut [u8],
 ) -> Answer
-    ensures { λ r. ⌜ Answers r (now (out .entry)) (now (out .exit)) (replied (spellingOf (toCardinal gender number case apostrophe (now (text .entry)))) (now (out .entry))) ⌝ }
+    ensures { λ r. ⌜ Answers r (now (out .entry)) (now (out .exit)) (replied (spellingOf (toCardinal gender number case apostrophe style (now (text .entry)))) (now (out .entry))) ⌝ }
 {
-    uk_calls::to_cardinal(gender, number, case, apostrophe, text, out)
+    uk_calls::to_cardinal(gender, number, case, apostrophe, style, text, out)
 }
 
 // The number text of a cardinal.
@@ -31,12 +32,13 @@ pub extern "C" fn yokepear_uk_from_cardinal(
     number: u32,
     case: u32,
     apostrophe: u32,
+    style: u32,
     phrase: &[u8],
     out: &mut [u8],
 ) -> Answer
-    ensures { λ r. ⌜ Reads (readingOf (fromCardinal gender number case apostrophe)) (now (phrase .entry)) r (now (out .entry)) (now (out .exit)) ⌝ }
+    ensures { λ r. ⌜ Reads (readingOf (fromCardinal gender number case apostrophe style)) (now (phrase .entry)) r (now (out .entry)) (now (out .exit)) ⌝ }
 {
-    uk_calls::from_cardinal(gender, number, case, apostrophe, phrase, out)
+    uk_calls::from_cardinal(gender, number, case, apostrophe, style, phrase, out)
 }
 
 // The ordinal of a number text.
@@ -46,12 +48,13 @@ pub extern "C" fn yokepear_uk_to_ordinal(
     number: u32,
     case: u32,
     apostrophe: u32,
+    style: u32,
     text: &[u8],
     out: &mut [u8],
 ) -> Answer
-    ensures { λ r. ⌜ Answers r (now (out .entry)) (now (out .exit)) (replied (spellingOf (toOrdinal gender number case apostrophe (now (text .entry)))) (now (out .entry))) ⌝ }
+    ensures { λ r. ⌜ Answers r (now (out .entry)) (now (out .exit)) (replied (spellingOf (toOrdinal gender number case apostrophe style (now (text .entry)))) (now (out .entry))) ⌝ }
 {
-    uk_ordinal_calls::to_ordinal(gender, number, case, apostrophe, text, out)
+    uk_ordinal_calls::to_ordinal(gender, number, case, apostrophe, style, text, out)
 }
 
 // The digit ordinal of a number text.
@@ -61,12 +64,13 @@ pub extern "C" fn yokepear_uk_to_ordinal_num(
     number: u32,
     case: u32,
     apostrophe: u32,
+    style: u32,
     text: &[u8],
     out: &mut [u8],
 ) -> Answer
-    ensures { λ r. ⌜ Answers r (now (out .entry)) (now (out .exit)) (replied (spellingOf (toOrdinalNum gender number case apostrophe (now (text .entry)))) (now (out .entry))) ⌝ }
+    ensures { λ r. ⌜ Answers r (now (out .entry)) (now (out .exit)) (replied (spellingOf (toOrdinalNum gender number case apostrophe style (now (text .entry)))) (now (out .entry))) ⌝ }
 {
-    uk_ordinal_calls::to_ordinal_num(gender, number, case, apostrophe, text, out)
+    uk_ordinal_calls::to_ordinal_num(gender, number, case, apostrophe, style, text, out)
 }
 
 // The phrase of a year.
@@ -76,12 +80,45 @@ pub extern "C" fn yokepear_uk_to_year(
     number: u32,
     case: u32,
     apostrophe: u32,
+    style: u32,
     year: i64,
     out: &mut [u8],
 ) -> Answer
-    ensures { λ r. ⌜ Answers r (now (out .entry)) (now (out .exit)) (replied (spellingOf (toYear gender number case apostrophe year)) (now (out .entry))) ⌝ }
+    ensures { λ r. ⌜ Answers r (now (out .entry)) (now (out .exit)) (replied (spellingOf (toYear gender number case apostrophe style year)) (now (out .entry))) ⌝ }
 {
-    uk_ordinal_calls::to_year(gender, number, case, apostrophe, year, out)
+    uk_ordinal_calls::to_year(gender, number, case, apostrophe, style, year, out)
+}
+
+// The number text of an ordinal as taught in school.
+#[no_mangle]
+pub extern "C" fn yokepear_uk_from_ordinal(
+    gender: u32,
+    number: u32,
+    case: u32,
+    apostrophe: u32,
+    style: u32,
+    phrase: &[u8],
+    out: &mut [u8],
+) -> Answer
+    ensures { λ r. ⌜ Reads (readingOf (fromOrdinal gender number case apostrophe style)) (now (phrase .entry)) r (now (out .entry)) (now (out .exit)) ⌝ }
+{
+    uk_ordinal_calls::reading::from_ordinal(gender, number, case, apostrophe, style, phrase, out)
+}
+
+// The number text of a year as taught in school.
+#[no_mangle]
+pub extern "C" fn yokepear_uk_from_year(
+    gender: u32,
+    number: u32,
+    case: u32,
+    apostrophe: u32,
+    style: u32,
+    phrase: &[u8],
+    out: &mut [u8],
+) -> Answer
+    ensures { λ r. ⌜ Reads (readingOf (fromYear gender number case apostrophe style)) (now (phrase .entry)) r (now (out .entry)) (now (out .exit)) ⌝ }
+{
+    uk_ordinal_calls::reading::from_year(gender, number, case, apostrophe, style, phrase, out)
 }
 
 // The phrase of a money text in a currency.
@@ -91,13 +128,14 @@ pub extern "C" fn yokepear_uk_to_currency(
     number: u32,
     case: u32,
     apostrophe: u32,
+    style: u32,
     code: &[u8],
     text: &[u8],
     out: &mut [u8],
 ) -> Answer
-    ensures { λ r. ⌜ Answers r (now (out .entry)) (now (out .exit)) (replied (spellingOf (toCurrency gender number case apostrophe (now (code .entry)) (now (text .entry)))) (now (out .entry))) ⌝ }
+    ensures { λ r. ⌜ Answers r (now (out .entry)) (now (out .exit)) (replied (spellingOf (toCurrency gender number case apostrophe style (now (code .entry)) (now (text .entry)))) (now (out .entry))) ⌝ }
 {
-    uk_money_calls::to_currency(gender, number, case, apostrophe, code, text, out)
+    uk_money_calls::to_currency(gender, number, case, apostrophe, style, code, text, out)
 }
 
 // The money text of an amount in a currency.
@@ -107,13 +145,14 @@ pub extern "C" fn yokepear_uk_from_currency(
     number: u32,
     case: u32,
     apostrophe: u32,
+    style: u32,
     code: &[u8],
     phrase: &[u8],
     out: &mut [u8],
 ) -> Answer
-    ensures { λ r. ⌜ Reads (readingOf (fromCurrency gender number case apostrophe (now (code .entry)))) (now (phrase .entry)) r (now (out .entry)) (now (out .exit)) ⌝ }
+    ensures { λ r. ⌜ Reads (readingOf (fromCurrency gender number case apostrophe style (now (code .entry)))) (now (phrase .entry)) r (now (out .entry)) (now (out .exit)) ⌝ }
 {
-    uk_money_calls::from_currency(gender, number, case, apostrophe, code, phrase, out)
+    uk_money_calls::from_currency(gender, number, case, apostrophe, style, code, phrase, out)
 }
 
 // The French cardinal of a number text.
@@ -179,11 +218,12 @@ pub extern "C" fn yokepear_uk_measure_cardinal(
     number: u32,
     case: u32,
     apostrophe: u32,
+    style: u32,
     text: &[u8],
 ) -> Measure
-    ensures { λ r. ⌜ r ≡ measured (spellingOf (toCardinal gender number case apostrophe (now (text .entry)))) ⌝ }
+    ensures { λ r. ⌜ r ≡ measured (spellingOf (toCardinal gender number case apostrophe style (now (text .entry)))) ⌝ }
 {
-    uk_calls::measure_cardinal(gender, number, case, apostrophe, text)
+    uk_calls::measure_cardinal(gender, number, case, apostrophe, style, text)
 }
 
 // The measure of an ordinal.
@@ -193,11 +233,12 @@ pub extern "C" fn yokepear_uk_measure_ordinal(
     number: u32,
     case: u32,
     apostrophe: u32,
+    style: u32,
     text: &[u8],
 ) -> Measure
-    ensures { λ r. ⌜ r ≡ measured (spellingOf (toOrdinal gender number case apostrophe (now (text .entry)))) ⌝ }
+    ensures { λ r. ⌜ r ≡ measured (spellingOf (toOrdinal gender number case apostrophe style (now (text .entry)))) ⌝ }
 {
-    uk_ordinal_calls::measure_ordinal(gender, number, case, apostrophe, text)
+    uk_ordinal_calls::measure_ordinal(gender, number, case, apostrophe, style, text)
 }
 
 // The measure of a digit ordinal.
@@ -207,11 +248,12 @@ pub extern "C" fn yokepear_uk_measure_ordinal_num(
     number: u32,
     case: u32,
     apostrophe: u32,
+    style: u32,
     text: &[u8],
 ) -> Measure
-    ensures { λ r. ⌜ r ≡ measured (spellingOf (toOrdinalNum gender number case apostrophe (now (text .entry)))) ⌝ }
+    ensures { λ r. ⌜ r ≡ measured (spellingOf (toOrdinalNum gender number case apostrophe style (now (text .entry)))) ⌝ }
 {
-    uk_ordinal_calls::measure_ordinal_num(gender, number, case, apostrophe, text)
+    uk_ordinal_calls::measure_ordinal_num(gender, number, case, apostrophe, style, text)
 }
 
 // The measure of a year.
@@ -221,11 +263,12 @@ pub extern "C" fn yokepear_uk_measure_year(
     number: u32,
     case: u32,
     apostrophe: u32,
+    style: u32,
     year: i64,
 ) -> Measure
-    ensures { λ r. ⌜ r ≡ measured (spellingOf (toYear gender number case apostrophe year)) ⌝ }
+    ensures { λ r. ⌜ r ≡ measured (spellingOf (toYear gender number case apostrophe style year)) ⌝ }
 {
-    uk_ordinal_calls::measure_year(gender, number, case, apostrophe, year)
+    uk_ordinal_calls::measure_year(gender, number, case, apostrophe, style, year)
 }
 
 // The measure of an amount in a currency.
@@ -235,12 +278,13 @@ pub extern "C" fn yokepear_uk_measure_currency(
     number: u32,
     case: u32,
     apostrophe: u32,
+    style: u32,
     code: &[u8],
     text: &[u8],
 ) -> Measure
-    ensures { λ r. ⌜ r ≡ measured (spellingOf (toCurrency gender number case apostrophe (now (code .entry)) (now (text .entry)))) ⌝ }
+    ensures { λ r. ⌜ r ≡ measured (spellingOf (toCurrency gender number case apostrophe style (now (code .entry)) (now (text .entry)))) ⌝ }
 {
-    uk_money_calls::measure_currency(gender, number, case, apostrophe, code, text)
+    uk_money_calls::measure_currency(gender, number, case, apostrophe, style, code, text)
 }
 
 // The measure of a French cardinal.

@@ -12,7 +12,7 @@ use Rattle.uk_money_calls.proofs.measure_currency.Tie as tie
 measure-requires : tie.Need-measure-requires
 measure-requires c κs =
     let a = c .before .before .before .before .before .before .before .before .before .before .args in (
-      rw (c .ukrainian .ensures) (within-holds (ukrainianRanges (ukrainianSettings (a .gender) (a .number) (a .case) (a .apostrophe))) (sym (c .before .before .before .before .before .before .before .is-ukrainian .ensures) ∙ c .before .before .before .before .before .before .if1 .taken)),
+      rw (c .ukrainian .ensures) (within-holds (ukrainianRanges (ukrainianSettings (a .gender) (a .number) (a .case) (a .apostrophe) (a .style))) (sym (c .before .before .before .before .before .before .before .is-ukrainian .ensures) ∙ c .before .before .before .before .before .before .if1 .taken)),
       c .before .before .before .before .if2 .taken,
       sym (c .before .before .number-of .ensures ∙ c .before .before .before .judge-amount .ensures) ∙ c .before .if3 .taken,
     )
@@ -27,21 +27,21 @@ returns c =
 returns-2 : tie.Need-returns-2
 returns-2 c =
     let a = c .before .before .before .before .before .before .before .before .before .before .args in
-    let call = ukToCurrency (ukrainianSettings (a .gender) (a .number) (a .case) (a .apostrophe)) (a .code .now) (a .text .now) in
+    let call = ukToCurrency (ukrainianSettings (a .gender) (a .number) (a .case) (a .apostrophe) (a .style)) (a .code .now) (a .text .now) in
     let w = sym (c .before .before .before .before .before .before .before .is-ukrainian .ensures) ∙ c .before .before .before .before .before .before .if1 .taken in
     c .unmeasured .ensures call (rw (w, known-code _ (rw (c .before .before .before .before .before .code-of .ensures) at (c .before .before .before .before .if2 .taken))) (sym (c .before .before .number-of .ensures ∙ c .before .before .before .judge-amount .ensures)))
 
 returns-3 : tie.Need-returns-3
 returns-3 c =
     let a = c .before .before .before .before .before .before .before .args in
-    let call = ukToCurrency (ukrainianSettings (a .gender) (a .number) (a .case) (a .apostrophe)) (a .code .now) (a .text .now) in
+    let call = ukToCurrency (ukrainianSettings (a .gender) (a .number) (a .case) (a .apostrophe) (a .style)) (a .code .now) (a .text .now) in
     let w = sym (c .before .before .before .before .is-ukrainian .ensures) ∙ c .before .before .before .if1 .taken in
     c .unmeasured2 .ensures call (rw (w, unknown-code _ (rw (c .before .before .code-of .ensures) at (c .before .if2 .left))) refl)
 
 returns-4 : tie.Need-returns-4
 returns-4 c =
     let a = c .before .before .before .before .before .args in
-    let call = ukToCurrency (ukrainianSettings (a .gender) (a .number) (a .case) (a .apostrophe)) (a .code .now) (a .text .now) in
+    let call = ukToCurrency (ukrainianSettings (a .gender) (a .number) (a .case) (a .apostrophe) (a .style)) (a .code .now) (a .text .now) in
     c .unmeasured3 .ensures call (rw (sym (c .before .before .is-ukrainian .ensures) ∙ c .before .if1 .left) refl)
 
 pub measure-currency-spec : {M : Type 1} → statement M

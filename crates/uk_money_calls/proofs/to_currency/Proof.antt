@@ -13,7 +13,7 @@ use Rattle.uk_money_calls.proofs.to_currency.Tie as tie
 spell-requires : tie.Need-spell-requires
 spell-requires c κs =
     let a = c .before .before .before .before .before .before .before .before .before .before .before .before .args in (
-      rw (c .before .ukrainian .ensures) (within-holds (ukrainianRanges (ukrainianSettings (a .gender) (a .number) (a .case) (a .apostrophe))) (sym (c .before .before .before .before .before .before .before .before .is-ukrainian .ensures) ∙ c .before .before .before .before .before .before .before .if1 .taken)),
+      rw (c .before .ukrainian .ensures) (within-holds (ukrainianRanges (ukrainianSettings (a .gender) (a .number) (a .case) (a .apostrophe) (a .style))) (sym (c .before .before .before .before .before .before .before .before .is-ukrainian .ensures) ∙ c .before .before .before .before .before .before .before .if1 .taken)),
       c .before .before .before .before .before .if2 .taken,
       sym (c .before .before .before .number-of .ensures ∙ c .before .before .before .before .judge-amount .ensures) ∙ c .before .before .if3 .taken,
     )

@@ -11,7 +11,7 @@ use Rattle.uk_ordinal_calls.proofs.measure_ordinal.Statement.{statement
 use Rattle.uk_ordinal_calls.proofs.measure_ordinal.Tie as tie
 
 -- nothing is refused
-none : (c : tie.Then1) → let a = c .before .before .before .args in Unrefused (ukrainianRanges (ukrainianSettings (a .gender) (a .number) (a .case) (a .apostrophe))) (ordinalRefusals 66 (a .text .now))
+none : (c : tie.Then1) → let a = c .before .before .before .args in Unrefused (ukrainianRanges (ukrainianSettings (a .gender) (a .number) (a .case) (a .apostrophe) (a .style))) (ordinalRefusals 66 (a .text .now))
 none c = unrefused (sym (c .before .refuse-ordinal .ensures) ∙ c .if1 .taken)
 
 ordinal-measure-requires : tie.Need-ordinal-measure-requires
@@ -23,7 +23,7 @@ ordinal-measure-requires c κs =
 returns : tie.Need-returns
 returns c =
     let a = c .before .before .before .before .before .args in
-    let z : ukToOrdinal (ukrainianSettings (a .gender) (a .number) (a .case) (a .apostrophe)) (a .text .now) .refusal ≡ 0 = sym (c .before .before .before .refuse-ordinal .ensures) ∙ c .before .before .if1 .taken in
+    let z : ukToOrdinal (ukrainianSettings (a .gender) (a .number) (a .case) (a .apostrophe) (a .style)) (a .text .now) .refusal ≡ 0 = sym (c .before .before .before .refuse-ordinal .ensures) ∙ c .before .before .if1 .taken in
     rw z (rw (c .before .ukrainian .ensures) at (c .ordinal-measure .ensures))
 
 pub measure-ordinal-spec : {M : Type 1} → statement M

@@ -13,7 +13,7 @@ use Rattle.uk_ordinal_calls.proofs.measure_ordinal_num.Statement.{state
 use Rattle.uk_ordinal_calls.proofs.measure_ordinal_num.Tie as tie
 
 -- nothing is refused
-none : (c : tie.Then1) → let a = c .before .before .before .args in Unrefused (ukrainianRanges (ukrainianSettings (a .gender) (a .number) (a .case) (a .apostrophe))) (digitOrdinalRefusals (a .text .now))
+none : (c : tie.Then1) → let a = c .before .before .before .args in Unrefused (ukrainianRanges (ukrainianSettings (a .gender) (a .number) (a .case) (a .apostrophe) (a .style))) (digitOrdinalRefusals (a .text .now))
 none c = unrefused (sym (c .before .refuse-digit-ordinal .ensures) ∙ c .if1 .taken)
 
 size-requires : tie.Need-size-requires
@@ -25,7 +25,7 @@ size-requires c κs =
 returns : tie.Need-returns
 returns c =
     let a = c .before .before .before .before .before .before .args in
-    let S = ukrainianSettings (a .gender) (a .number) (a .case) (a .apostrophe) in
+    let S = ukrainianSettings (a .gender) (a .number) (a .case) (a .apostrophe) (a .style) in
     let t = a .text .now in
     let z : ukToOrdinalNum S t .refusal ≡ 0 = sym (c .before .before .before .before .refuse-digit-ordinal .ensures) ∙ c .before .before .before .if1 .taken in
     let d = digit-ordinal-digits t (none (c .before .before .before) .others) in

@@ -12,7 +12,7 @@ use Rattle.uk_ordinal_calls.proofs.measure_year.Tie as tie
 year-measure-requires : tie.Need-year-measure-requires
 year-measure-requires c κs =
     let a = c .before .before .before .args in
-    rw (c .ukrainian .ensures) (within-holds (ukrainianRanges (ukrainianSettings (a .gender) (a .number) (a .case) (a .apostrophe))) (sym (c .before .before .is-ukrainian .ensures) ∙ c .before .if1 .taken))
+    rw (c .ukrainian .ensures) (within-holds (ukrainianRanges (ukrainianSettings (a .gender) (a .number) (a .case) (a .apostrophe) (a .style))) (sym (c .before .before .is-ukrainian .ensures) ∙ c .before .if1 .taken))
 
 returns : tie.Need-returns
 returns c =
@@ -21,7 +21,7 @@ returns c =
 returns-2 : tie.Need-returns-2
 returns-2 c =
     let a = c .before .before .before .args in
-    let call = ukToYear (ukrainianSettings (a .gender) (a .number) (a .case) (a .apostrophe)) (a .year) in
+    let call = ukToYear (ukrainianSettings (a .gender) (a .number) (a .case) (a .apostrophe) (a .style)) (a .year) in
     c .unmeasured .ensures call (rw (sym (c .before .before .is-ukrainian .ensures) ∙ c .before .if1 .left) refl)
 
 pub measure-year-spec : {M : Type 1} → statement M

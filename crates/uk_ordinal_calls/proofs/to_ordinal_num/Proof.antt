@@ -14,7 +14,7 @@ use Rattle.uk_ordinal_calls.proofs.to_ordinal_num.Statement.{statement}
 use Rattle.uk_ordinal_calls.proofs.to_ordinal_num.Tie as tie
 
 -- nothing is refused
-none : (c : tie.Then1) → let a = c .before .before .before .before .args in Unrefused (ukrainianRanges (ukrainianSettings (a .gender) (a .number) (a .case) (a .apostrophe))) (digitOrdinalRefusals (a .text .now))
+none : (c : tie.Then1) → let a = c .before .before .before .before .args in Unrefused (ukrainianRanges (ukrainianSettings (a .gender) (a .number) (a .case) (a .apostrophe) (a .style))) (digitOrdinalRefusals (a .text .now))
 none c = unrefused (sym (c .before .refuse-digit-ordinal .ensures) ∙ c .if1 .taken)
 
 say-requires : tie.Need-say-requires
@@ -26,7 +26,7 @@ say-requires c κs =
 returns : tie.Need-returns
 returns c =
     let a = c .before .before .before .before .before .before .before .before .before .args in
-    (said _ _ _ (ukToOrdinalNum (ukrainianSettings (a .gender) (a .number) (a .case) (a .apostrophe)) (now (a .text)) .phrase) _ (sym (c .before .before .before .before .before .before .refuse-digit-ordinal .ensures) ∙ c .before .before .before .before .before .if1 .taken) (rw (c .before .before .before .before .ukrainian .ensures) at (c .before .before .say .ensures .0)), c .before .before .say .ensures .1)
+    (said _ _ _ (ukToOrdinalNum (ukrainianSettings (a .gender) (a .number) (a .case) (a .apostrophe) (a .style)) (now (a .text)) .phrase) _ (sym (c .before .before .before .before .before .before .refuse-digit-ordinal .ensures) ∙ c .before .before .before .before .before .if1 .taken) (rw (c .before .before .before .before .ukrainian .ensures) at (c .before .before .say .ensures .0)), c .before .before .say .ensures .1)
 
 returns-2 : tie.Need-returns-2
 returns-2 c = (refused-as _ _ _ _ _ (c .refused .ensures) (c .before .before .refuse-digit-ordinal .ensures) (c .before .if1 .left), omega (arith, c .refused .ensures .1))

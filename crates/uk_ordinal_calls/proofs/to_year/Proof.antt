@@ -14,7 +14,7 @@ use Rattle.uk_ordinal_calls.proofs.to_year.Tie as tie
 say-year-requires : tie.Need-say-year-requires
 say-year-requires c κs =
     let a = c .before .before .before .before .before .args in
-    rw (c .before .ukrainian .ensures) (within-holds (ukrainianRanges (ukrainianSettings (a .gender) (a .number) (a .case) (a .apostrophe))) (sym (c .before .before .before .is-ukrainian .ensures) ∙ c .before .before .if1 .taken))
+    rw (c .before .ukrainian .ensures) (within-holds (ukrainianRanges (ukrainianSettings (a .gender) (a .number) (a .case) (a .apostrophe) (a .style))) (sym (c .before .before .before .is-ukrainian .ensures) ∙ c .before .before .if1 .taken))
 
 returns : tie.Need-returns
 returns c =

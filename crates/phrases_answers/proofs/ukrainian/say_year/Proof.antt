@@ -8,7 +8,8 @@ use mir.Syntax.{w64}
 use mir.Val.{SFits}
 use Rattle.base.specs.Answer.{firstOf}
 use Rattle.figures.specs.Refusals.{yearRefusals}
-use Rattle.phrases_answers.specs.Answers.{yearText, lineSettings}
+use Rattle.uk_ordinal_calls.specs.UkOrdinals.{yearText}
+use Rattle.phrases_answers.specs.Answers.{lineSettings}
 use Rattle.phrases_answers.proofs.Laws.{small-number, line-told, line-refused, year-small, year-fine, year-refusal, year-asked}
 use Rattle.phrases_answers.proofs.ukrainian.say_year.Statement.{statement}
 use Rattle.phrases_answers.proofs.ukrainian.say_year.Tie as tie

@@ -1,0 +1,3 @@
+pub mod LastWord
+pub mod Guess
+pub mod Promise
