@@ -24,7 +24,7 @@ use Rattle.uk.specs.Ukrainian.{atOrder, unitForm, teenForm, ukrainianDig
 
 -- the settings S under another apostrophe
 abbrev pub inApostrophe : ℕ → Settings → Settings
-inApostrophe a S = record { gender = S .gender; number = S .number; case = S .case; reformed = S .reformed; region = S .region; apostrophe = a }
+inApostrophe a S = record { gender = S .gender; number = S .number; case = S .case; reformed = S .reformed; region = S .region; apostrophe = a; style = S .style }
 
 -- what is said under the settings S has under the apostrophe a its sign for each U+02BC: a word, and words
 abbrev pub TurnsAt : ℕ → Settings → (Settings → Word) → Type 0
@@ -34,7 +34,7 @@ abbrev pub WordsTurnAt : ℕ → Settings → (Settings → List Word) → Type 
 WordsTurnAt a S f = WordsTurn (signBytes a) (f (inApostrophe 0 S)) (f (inApostrophe a S))
 
 -- a text of a table that has the sign
-text-turns : (sign : Char) (s : String) → Turns (encode (code sign)) (utf8 (withApostrophe "ʼ" s)) (utf8 (withApostrophe sign s))
+pub text-turns : (sign : Char) (s : String) → Turns (encode (code sign)) (utf8 (withApostrophe "ʼ" s)) (utf8 (withApostrophe sign s))
 text-turns sign [] = nothing
 text-turns sign (c ∷ s) = followed (go (eqb (code c) (code "ʼ")) refl) (text-turns sign s)
   where
@@ -49,11 +49,11 @@ by-sign f d (suc zero) h = refl
 by-sign f d (suc (suc zero)) h = refl
 by-sign f d (suc (suc (suc a))) h = absurd (omega arith)
 
-by1 : (t : List String) (a i : ℕ) → a < 3 → form2 (byApostrophe1 t) a i ≡ utf8 (withApostrophe (signAt a) (getD t i ""))
+pub by1 : (t : List String) (a i : ℕ) → a < 3 → form2 (byApostrophe1 t) a i ≡ utf8 (withApostrophe (signAt a) (getD t i ""))
 unfolding form2 byApostrophe1
 by1 t a i h = rw (by-sign (λ sign. map (withApostrophe sign) t) []ᴸ a h, List·getD-map (withApostrophe (signAt a)) t i "")
 
-by2 : (t : List (List String)) (a i j : ℕ) → a < 3 → form3 (byApostrophe2 t) a i j ≡ form2 (byApostrophe1 (getD t i []ᴸ)) a j
+pub by2 : (t : List (List String)) (a i j : ℕ) → a < 3 → form3 (byApostrophe2 t) a i j ≡ form2 (byApostrophe1 (getD t i []ᴸ)) a j
 unfolding form2 form3 byApostrophe1 byApostrophe2
 by2 t a i j h =
     rw (by-sign (λ sign. map (map (withApostrophe sign)) t) []ᴸ a h, List·getD-map (map (withApostrophe (signAt a))) t i []ᴸ, by-sign (λ sign. map (withApostrophe sign) (getD t i []ᴸ)) []ᴸ a h)

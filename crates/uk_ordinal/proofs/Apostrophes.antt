@@ -6,7 +6,7 @@ use mathlib.Core.Bool.{Bool, true, false, _&&_}
 use mathlib.Core.List.{List, [], _∷_}
 use native.Mathlib.Omega.{arith}
 use borrow.Author.Tests.{ne-eqb}
-use lib.Dec.{eqb}
+use lib.Dec.{eqb, ltb}
 use lib.IntN.{ℤ, natAbs}
 use Rattle.base.specs.Replaced.{apostropheLead}
 use Rattle.base.specs.Utf8.{utf8}
@@ -17,12 +17,12 @@ use Rattle.figures.specs.Text.{digits, value}
 use Rattle.figures.proofs.Laws.Digits.{digit-high, digits-head, digits-tail}
 use Rattle.cardinals.specs.Cardinal.{groupAt}
 use Rattle.cardinals.proofs.Replaced.{groups-turn}
-use Rattle.uk.specs.Apostrophes.{signBytes}
+use Rattle.uk.specs.Apostrophes.{signAt, signBytes}
 use Rattle.uk.specs.UkTables.{teensBases, megaBases}
 use Rattle.uk.specs.Ukrainian.{ukrainianDigits, ukrainianOrders}
-use Rattle.uk.proofs.Apostrophes.{inApostrophe, TurnsAt, WordsTurnAt, mega-plain, DigitsTurn, opt-turns, num-turns, turns1, unit-turns, digits-turn, ukrainian-turns}
+use Rattle.uk.proofs.Apostrophes.{inApostrophe, TurnsAt, WordsTurnAt, text-turns, mega-plain, DigitsTurn, opt-turns, num-turns, turns1, unit-turns, digits-turn, ukrainian-turns}
 use Rattle.uk_ordinal.specs.OrdinalTables as words
-use Rattle.uk_ordinal.specs.Ordinal.{soft, flexion, inNominative, inGenitive, compoundDigits, compoundWord, tailWords, plainWords, lowestWords, above, ordinalAt, ordinalFrom, ordinalWords}
+use Rattle.uk_ordinal.specs.Ordinal.{soft, flexion, inNominative, inGenitive, school, compoundDigits, compoundWord, tailWords, hundredCount, plainWords, lowestWords, above, ordinalAt, ordinalFrom, ordinalWords}
 use Rattle.uk_ordinal.specs.DigitOrdinal.{shortSingular, shortFlexion, digitOrdinal}
 use Rattle.uk_ordinal.specs.Year.{early, eraWords, yearNoun, yearWords}
 
@@ -95,14 +95,18 @@ module _ (a : ℕ) (h : a < 3) (S : Settings) where
   compound-digits =
       let D = digits-turn a h (inGenitive S) in
       record {
-        hundred = D .hundred;
-        ten = D .ten;
+        hundred = λ d. chosen (Turns (signBytes a)) (school S && eqb d 1) (plain (utf8 "сто") refl) (D .hundred d);
+        ten = λ d. chosen (Turns (signBytes a)) (school S && eqb d 9) (text-turns (signAt a) "девʼяносто") (D .ten d);
         teen = D .teen;
         unit = λ u. chosen (Turns (signBytes a)) (eqb u 1) (plain (utf8 words.oneBase) refl) (unit-turns a h (inGenitive S) u);
       }
 
   nominative-digits : DigitsTurn (signBytes a) (ukrainianDigits (inNominative (inApostrophe 0 S))) (ukrainianDigits (inNominative (inApostrophe a S)))
   nominative-digits = digits-turn a h (inNominative S)
+
+  -- the count before the base of hundreds
+  count-turns : (d : ℕ) → TurnsAt a S (λ S. hundredCount S d)
+  count-turns d = chosen (Turns (signBytes a)) (school S && ltb 1 d) (unit-turns a h (inGenitive S) d) nothing
 
   module _ (isSoft : Bool) where
     -- the lowest group, with its ending
@@ -121,7 +125,7 @@ module _ (a : ℕ) (h : a < 3) (S : Settings) where
     plain-turns : (g : ℕ) → WordsTurnAt a S (λ S. plainWords S (flexion S isSoft) g)
     unfolding plainWords words.hundredBase
     plain-turns g =
-        chosen (WordsTurn (signBytes a)) (eqb (g % 100) 0) (one (followed (plain (utf8 words.hundredBase) refl) (flexion-turns isSoft)))
+        chosen (WordsTurn (signBytes a)) (eqb (g % 100) 0) (one (followed (count-turns (g / 100 % 10)) (followed (plain (utf8 words.hundredBase) refl) (flexion-turns isSoft))))
         (words-append (opt-turns _ _ (nominative-digits .hundred) (g / 100 % 10)) (tail-turns (g / 10 % 10) (g % 10)))
 
     lowest-turns : (rest k g : ℕ) → WordsTurnAt a S (λ S. lowestWords S (flexion S isSoft) rest k g)

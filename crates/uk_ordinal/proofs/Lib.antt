@@ -3,3 +3,4 @@ pub mod Tables
 pub mod Cased
 pub mod Words
 pub mod Apostrophes
+pub mod Compound

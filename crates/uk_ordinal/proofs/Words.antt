@@ -5,10 +5,11 @@ use mathlib.Core.Path.{_≡_, refl}
 use mathlib.Core.Bool.{Bool, true, false, _&&_}
 use mathlib.Core.List.{List, [], _∷_, _++_, flatten}
 use native.Mathlib.Omega.{arith}
-use borrow.Author.Tests.{eqb-false, ne-eqb}
-use lib.Dec.{eqb}
+use borrow.Author.Tests.{eqb-false, ne-eqb, ltb-true}
+use lib.Dec.{eqb, ltb}
 use lib.IntN.{ℤ, natAbs}
 use lib.ListN.{length}
+use Rattle.tables.proofs.Tests.{both-hold}
 use Rattle.base.specs.Join.{Word}
 use Rattle.base.specs.Signs.{space}
 use Rattle.base.specs.Utf8.{utf8, form1, form2}
@@ -20,12 +21,12 @@ use Rattle.figures.proofs.Laws.Digits.{digit-low, digits-head, digits-tail}
 use Rattle.cardinals.specs.Cardinal.{groupAt, groupsBelow}
 use Rattle.cardinals.proofs.Words.{groups-solid}
 use Rattle.uk.specs.UkTables.{megaBases}
-use Rattle.uk.specs.Apostrophes.{byApostrophe1}
+use Rattle.uk.specs.Apostrophes.{withApostrophe, byApostrophe1, signAt}
 use Rattle.uk.specs.Rules.{opt}
-use Rattle.uk.specs.Ukrainian.{ukrainianDigits, ukrainianOrders, ukrainian}
+use Rattle.uk.specs.Ukrainian.{unitForm, ukrainianDigits, ukrainianOrders, ukrainian}
 use Rattle.uk.proofs.Words.{teen-solid, mega-solid, SolidDigits, digits-solid, opt-solid, num-solid, ukrainian-solid}
 use Rattle.uk_ordinal.specs.OrdinalTables as words
-use Rattle.uk_ordinal.specs.Ordinal.{soft, flexion, inNominative, inGenitive, compoundDigits, compoundWords, compoundWord, tailWords, plainWords, lowestWords, above, ordinalAt, ordinalFrom, ordinalWords}
+use Rattle.uk_ordinal.specs.Ordinal.{soft, flexion, inNominative, inGenitive, school, compoundDigits, compoundWords, compoundWord, tailWords, hundredCount, plainWords, lowestWords, above, ordinalAt, ordinalFrom, ordinalWords}
 use Rattle.uk_ordinal.specs.DigitOrdinal.{shortSingular, shortFlexion, digitOrdinal}
 use Rattle.uk_ordinal.specs.Year.{early, eraWords, yearNoun, yearWords}
 
@@ -70,6 +71,13 @@ year-solid : (i j : ℕ) → i < 2 → j < 6 → Solid (form2 words.year i j)
 unfolding form2 words.year
 year-solid = at2 2 6 words.year refl
 
+-- the tens digit 9 in a compound of school
+ninety-solid : (a : ℕ) → a < 3 → Solid (utf8 (withApostrophe (signAt a) "девʼяносто"))
+ninety-solid zero h = tested refl
+ninety-solid (suc zero) h = tested refl
+ninety-solid (suc (suc zero)) h = tested refl
+ninety-solid (suc (suc (suc a))) h = absurd (omega arith)
+
 -- digits
 not-space : (b : ℕ) → digit b ≡ true → eqb b space ≡ false
 not-space b e = ne-eqb b space (λ f. omega (arith, digit-low b e))
@@ -113,7 +121,12 @@ module _ (S : Settings) (w : Within (ukrainianRanges S)) where
   unfolding compoundDigits ukrainianDigits words.oneBase
   compound-digits =
       let d = digits-solid (inGenitive S) genitive in
-      record { hundred = d .hundred; ten = d .ten; teen = d .teen; unit = λ u a b. either Solid (eqb u 1) (λ e. tested refl) (λ e. d .unit u a b) }
+      record {
+        hundred = λ h a b. either Solid (school S && eqb h 1) (λ e. tested refl) (λ e. d .hundred h a b);
+        ten = λ t a b. either Solid (school S && eqb t 9) (λ e. ninety-solid (S .apostrophe) (w .1 .1 .1 .0)) (λ e. d .ten t a b);
+        teen = d .teen;
+        unit = λ u a b. either Solid (eqb u 1) (λ e. tested refl) (λ e. d .unit u a b);
+      }
 
   -- the lowest group, with its ending
   module _ (ending : Word) (p : Trails ending) where
@@ -132,10 +145,17 @@ module _ (S : Settings) (w : Within (ukrainianRanges S)) where
         (opt-solid (ukrainianDigits (inNominative S) .ten) t (λ h. digits-solid (inNominative S) nominative .ten t (omega (arith, eqb-false t 1 e)) a))
         (one-solid (followed (unit-solid (S .apostrophe) (u - 1) (w .1 .1 .1 .0) (omega arith)) p))))
 
+    round-solid : (h : ℕ) → h < 10 → Solid (hundredCount S h ++ (utf8 words.hundredBase ++ ending))
+    unfolding words.hundredBase ukrainianDigits
+    round-solid h b =
+        either (λ count. Solid (count ++ (utf8 words.hundredBase ++ ending))) (school S && ltb 1 h)
+        (λ e. followed (digits-solid (inGenitive S) genitive .unit h (omega (arith, ltb-true 1 h (both-hold (school S) (ltb 1 h) e .1))) b) (followed {a = utf8 words.hundredBase} (tested refl) p))
+        (λ e. followed {a = utf8 words.hundredBase} (tested refl) p)
+
     plain-solid : (g : ℕ) → SomeSolid (plainWords S ending g)
-    unfolding plainWords words.hundredBase
+    unfolding plainWords
     plain-solid g =
-        either SomeSolid (eqb (g % 100) 0) (λ e. one-solid (followed {a = utf8 words.hundredBase} (tested refl) p))
+        either SomeSolid (eqb (g % 100) 0) (λ e. one-solid (round-solid (g / 100 % 10) (omega arith)))
         (λ e. some-append (opt (ukrainianDigits (inNominative S) .hundred) (g / 100 % 10)) (tailWords S ending (g / 10 % 10) (g % 10))
         (opt-solid (ukrainianDigits (inNominative S) .hundred) (g / 100 % 10) (λ h. digits-solid (inNominative S) nominative .hundred (g / 100 % 10) h (omega arith)))
         (tail-solid (g / 10 % 10) (g % 10) (omega arith) (omega arith) (λ x y. eqb-false (g % 100) 0 e (omega arith))))

@@ -3,10 +3,10 @@
 use Prim.Native.Nat.{ℕ, zero, suc, _+_, _-_, _/_, _%_, _<_}
 use mathlib.Core.Path.{_≡_, refl}
 use mathlib.Core.Bool.{true, false, _&&_}
-use mathlib.Core.List.{List, [], _∷_, _++_, flatten}
+use mathlib.Core.List.{List, [], _∷_, _++_, flatten, append-nil}
 use native.Mathlib.Omega.{arith}
 use borrow.Author.Tests.{eq-eqb, ne-eqb}
-use lib.Dec.{eqb}
+use lib.Dec.{eqb, ltb}
 use Rattle.base.specs.Join.{Word}
 use Rattle.base.specs.Utf8.{utf8, form1, form2}
 use Rattle.settings.specs.declared.Settings.{Settings}
@@ -15,7 +15,7 @@ use Rattle.uk.specs.Apostrophes.{byApostrophe1}
 use Rattle.uk.specs.Rules.{DigitWords, opt, lowWords, numWords}
 use Rattle.uk.specs.Ukrainian.{unitForm, ukrainianDigits}
 use Rattle.uk_ordinal.specs.OrdinalTables.{hundredBase, ordinalUnitBases, ordinalTensBases}
-use Rattle.uk_ordinal.specs.Ordinal.{inNominative, inGenitive, compoundDigits, compoundWord, tailWords, plainWords, lowestWords}
+use Rattle.uk_ordinal.specs.Ordinal.{inNominative, inGenitive, school, compoundDigits, compoundWord, tailWords, hundredCount, plainWords, lowestWords}
 
 -- no list is empty that has an element
 some : {A : Type 0} {a : A} {l : List A} → a ∷ l ≡ [] → ⊥
@@ -63,8 +63,16 @@ module _ (S : Settings) where
       → opt (ukrainianDigits (inNominative S) .ten) t ++ ((form2 (byApostrophe1 ordinalUnitBases) (S .apostrophe) (u - 1) ++ e) ∷ []) ≡ tailWords S e t u
   tail-unit e t u n z = rw (ne-eqb t 1 n, ne-eqb u 0 z) refl
 
+  -- a round hundred: behind its count, and without one
+  pub counted-hundred : (e : Word) (h : ℕ) → (school S && ltb 1 h) ≡ true → flatten (unitForm (inGenitive S) h ∷ utf8 hundredBase ∷ e ∷ []) ≡ hundredCount S h ++ (utf8 hundredBase ++ e)
+  unfolding flatten
+  counted-hundred e h t = rw (t, append-nil e) refl
+
+  pub bare-hundred : (e : Word) (h : ℕ) → (school S && ltb 1 h) ≡ false → utf8 hundredBase ++ e ≡ hundredCount S h ++ (utf8 hundredBase ++ e)
+  bare-hundred e h t = rw t refl
+
   -- the group at order 0
-  pub plain-hundred : (e : Word) (g : ℕ) → g % 100 ≡ 0 → (utf8 hundredBase ++ e) ∷ [] ≡ plainWords S e g
+  pub plain-hundred : (e : Word) (g : ℕ) → g % 100 ≡ 0 → (hundredCount S (g / 100 % 10) ++ (utf8 hundredBase ++ e)) ∷ [] ≡ plainWords S e g
   unfolding plainWords
   plain-hundred e g z = rw (eq-eqb (g % 100) 0 z) refl
 

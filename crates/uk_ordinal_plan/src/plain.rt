@@ -19,6 +19,7 @@ ghost use Rattle.uk.specs.Rules.{opt};
 ghost use Rattle.uk.specs.Ukrainian.{ukrainianDigits};
 ghost use Rattle.uk_ordinal.specs.OrdinalTables.{ordinalZeroBase, hundredBase};
 ghost use Rattle.uk_ordinal.specs.Ordinal.{inNominative, school, tailWords, hundredCount, plainWords};
+ghost use Rattle.uk_ordinal_plan.specs.Said.{Spoken};
 
 // The nominative tens word, if any.
 fn ten_word(settings: Settings, t: usize, plan: &mut [u32], at: usize) -> usize
@@ -75,7 +76,7 @@ fn counts_hundreds(settings: Settings, h: usize) -> bool
 // A group of h hundreds: in school the count before the base is its unit's genitive, from 2 on.
 fn round_word(settings: Settings, h: usize, ending: u16, plan: &mut [u32], at: usize) -> usize
     requires { ⌜ Within (ukrainianRanges settings) × (h < 10) × (at + 3 ≤ length (now plan)) ⌝ }
-    ensures { λ r. ⌜ Told ukPool 3 (now (plan .entry)) at (now (plan .exit)) r ((hundredCount settings h ++ (utf8 hundredBase ++ part ukPool ending)) ∷ []) ⌝ }
+    ensures { λ r. ⌜ Spoken ukPool 3 (now (plan .entry)) at (now (plan .exit)) r ((hundredCount settings h ++ (utf8 hundredBase ++ part ukPool ending)) ∷ []) ⌝ }
 {
     if counts_hundreds(settings, h) {
         let unit = uk::unit(uk_ordinal::in_genitive(settings), h);
@@ -90,7 +91,7 @@ fn round_word(settings: Settings, h: usize, ending: u16, plan: &mut [u32], at: u
 // The lowest group at order 0.
 pub fn plain_words(settings: Settings, g: usize, ending: u16, plan: &mut [u32], at: usize) -> usize
     requires { ⌜ Within (ukrainianRanges settings) × (at + 4 ≤ length (now plan)) ⌝ }
-    ensures { λ r. ⌜ Told ukPool 4 (now (plan .entry)) at (now (plan .exit)) r (plainWords settings (part ukPool ending) g) ⌝ }
+    ensures { λ r. ⌜ Spoken ukPool 4 (now (plan .entry)) at (now (plan .exit)) r (plainWords settings (part ukPool ending) g) ⌝ }
 {
     if g % 100 == 0 {
         return round_word(settings, g / 100 % 10, ending, plan, at);

@@ -11,7 +11,7 @@ use lib.Arith.{digits-lt}
 use lib.Dec.{eqb, ltb}
 use lib.ListN.{length, length-append}
 use Rattle.base.specs.Join.{Word}
-use Rattle.figures.specs.Groups.{total}
+use Rattle.figures.specs.Groups.{total, Groups}
 use Rattle.settings.specs.declared.Settings.{Settings}
 use Rattle.cardinals.specs.Grammar.{Falling, end, skip, group}
 use Rattle.uk.specs.Ukrainian.{ukrainian}
@@ -57,6 +57,21 @@ sums-small (suc k) ws = go (eqb (taken 0 ws .order) k) (sums-small k (taken 0 ws
         → total (cond t (sums k (taken 0 ws .rest) ++ (taken 0 ws .value ∷ [])) (sums k ws ++ (0 ∷ []))) < 1000 ^ suc k
     go true a b = more-small (sums k (taken 0 ws .rest)) k (taken 0 ws .value) (sums-length k (taken 0 ws .rest)) (taken-small 0 ws (omega arith)) a
     go false a b = more-small (sums k ws) k 0 (sums-length k ws) (omega arith) b
+
+-- every group of what is made of any words has at most three digits
+groups-more : (gs : List ℕ) (g : ℕ) → g < 1000 → Groups gs → Groups (gs ++ (g ∷ []))
+groups-more [] g h p = (h, tt)
+groups-more (x ∷ gs) g h p = (p .0, groups-more gs g h (p .1))
+
+pub sums-groups : (k : ℕ) (ws : List Word) → Groups (sums k ws)
+unfolding sums
+sums-groups zero ws = tt
+sums-groups (suc k) ws = go (eqb (taken 0 ws .order) k) (sums-groups k (taken 0 ws .rest)) (sums-groups k ws)
+  where
+    go : (t : Bool) → Groups (sums k (taken 0 ws .rest)) → Groups (sums k ws)
+        → Groups (cond t (sums k (taken 0 ws .rest) ++ (taken 0 ws .value ∷ [])) (sums k ws ++ (0 ∷ [])))
+    go true a b = groups-more (sums k (taken 0 ws .rest)) (taken 0 ws .value) (taken-small 0 ws (omega arith)) a
+    go false a b = groups-more (sums k ws) 0 (omega arith) b
 
 -- a group of order k is taken; where the next is of a lower order, 0
 module _ (k : ℕ) (ws : List Word) where

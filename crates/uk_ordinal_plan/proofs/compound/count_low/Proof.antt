@@ -27,10 +27,10 @@ count-low-spec =
     let u = c .before .before .before .before .before .before .before .before .before .before .before .before .before .before .args .u in
     let e : 10 + u - 10 ≡ u = omega arith in
     rw (c .before .before .before .before .before .before .before .before .before .before .before .if2 .taken, e) (run-ended (c .before .before .before .before .before .before .before .before .push .ensures ukPool) (c .before .before .push2 .ensures ukPool) (c .before .before .before .before .before .before .before .before .before .teen .ensures) (rw (c .before .before .before .before .in-genitive .ensures .0) at (c .before .before .before .teen-ending .ensures))))
-    (λ c κs. search needs) (λ c κs. search needs) (λ c κs. search needs)
-    (λ c κs. let s = c .before .before .before .before .before .before .before .before .before .before in (s .pre .0, s .pre .2, omega (arith, s .pre .3, c .before .before .before .push3 .ensures ukPool .near, c .before .before .before .push3 .kept .0)))
+    (λ c κs. search needs) (λ c κs. search needs)
+    (λ c κs. let s = c .before .before .before .before .before .before .before .before .before in (s .pre .0, s .pre .2, omega (arith, s .pre .3, c .before .before .before .push3 .ensures ukPool .near, c .before .before .before .push3 .kept .0)))
     (λ c. search needs)
     (λ c.
-    let s = c .before .before .before .before .before .before .before .before .before .before .before .before .before in
-    rerun 2 (run-more 2 (run-one (c .before .before .before .before .before .before .push3 .ensures ukPool) (rw (c .before .before .before .before .before .before .before .before .in-genitive2 .ensures .0) at (c .before .before .before .before .before .before .before .ten .ensures))) (c .before .before .count-unit2 .ensures) (omega arith)) (omega arith)
-    (low-ten (compoundDigits (s .args .settings)) (s .args .t) (s .args .u) (c .before .before .before .before .before .before .before .before .before .before .before .if1 .left) (c .before .before .before .before .before .before .before .before .before .before .if2 .left))))
+    let s = c .before .before .before .before .before .before .before .before .before .before .before .before in
+    rerun 2 (run-more 2 (run-one (c .before .before .before .before .before .before .push3 .ensures ukPool) (c .before .before .before .before .before .before .before .compound-ten .ensures)) (c .before .before .count-unit2 .ensures) (omega arith)) (omega arith)
+    (low-ten (compoundDigits (s .args .settings)) (s .args .t) (s .args .u) (c .before .before .before .before .before .before .before .before .before .before .if1 .left) (c .before .before .before .before .before .before .before .before .before .if2 .left))))
