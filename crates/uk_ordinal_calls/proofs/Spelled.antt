@@ -116,7 +116,7 @@ limit-held m n h = lt-of-le-of-lt h (go m)
     go false = ltb-true (2 ^ 63 - 1) (1000 ^ 22) refl
 
 -- a year's text that is not refused, and the other way round
-year-fine : (t : List ℕ) → Admitted (yearRefusals t) → (wellFormed t ≡ true) × (value (unsigned t) ≤ yearLimit (negative t))
+pub year-fine : (t : List ℕ) → Admitted (yearRefusals t) → (wellFormed t ≡ true) × (value (unsigned t) ≤ yearLimit (negative t))
 year-fine t e = go (wellFormed t) (ltb (yearLimit (negative t)) (value (unsigned t))) refl refl e
   where
     go : (w l : Bool) → wellFormed t ≡ w → ltb (yearLimit (negative t)) (value (unsigned t)) ≡ l → cond (not w) malformed (cond l tooLarge 0) ≡ 0
@@ -141,13 +141,13 @@ module _ (S : Settings) (v : readingRefusal S ≡ 0) where
   M = inGender masculine S
 
   -- the magnitude and the sign that are made of bytes
-  yearNumber : List ℕ → ℕ
+  pub yearNumber : List ℕ → ℕ
   yearNumber s = ordinalNumber M (yearOrdinal S (seemsEarly s) s)
 
-  yearSign : List ℕ → Bool
+  pub yearSign : List ℕ → Bool
   yearSign s = cond (eqb (yearNumber s) 0) false (seemsEarly s)
 
-  found-year : (s : List ℕ) (m : Bool) (n : ℕ) → SaysYear S s m n → (yearSign s ≡ m) × (yearNumber s ≡ n)
+  pub found-year : (s : List ℕ) (m : Bool) (n : ℕ) → SaysYear S s m n → (yearSign s ≡ m) × (yearNumber s ≡ n)
   unfolding yearSign yearNumber
   found-year s m n w =
       let e : joined (ordinalWords M n ++ (yearNoun S ∷ eraWords (m || eqb n 0))) ≡ s = ap joined (sym (year-words S m n (w .zeroPlain))) ∙ w .spelled in

@@ -38,7 +38,7 @@ knows w v t = record { means = eqb-true (mean w) v (and-left (eqb (mean w) v) (i
 
 -- a scale noun by order, grammatical number and case
 scale : ℕ → ℕ → ℕ → Word
-scale k n c = form1 megaBases (k - 1) ++ scaleEnding (ukrainianSettings 0 n c 0) k
+scale k n c = form1 megaBases (k - 1) ++ scaleEnding (ukrainianSettings 0 n c 0 0) k
 
 -- the words of digits by apostrophe and case
 abbrev hundreds? : ℕ → ℕ → Bool
@@ -48,10 +48,10 @@ abbrev tens? : ℕ → ℕ → Bool
 tens? a c = all 2 8 (λ t. known? (form3 (byApostrophe2 tens) a (t - 2) c) (10 * t))
 
 abbrev teens? : ℕ → ℕ → Bool
-teens? a c = all 10 10 (λ v. known? (teenForm (ukrainianSettings 0 0 c a) v) v)
+teens? a c = all 10 10 (λ v. known? (teenForm (ukrainianSettings 0 0 c a 0) v) v)
 
 abbrev units? : ℕ → ℕ → Bool
-units? a c = all 0 3 (λ g. all 1 9 (λ u. known? (unitForm (ukrainianSettings g 0 c a) u) u))
+units? a c = all 0 3 (λ g. all 1 9 (λ u. known? (unitForm (ukrainianSettings g 0 c a 0) u) u))
 
 abbrev scales? : ℕ → Bool
 scales? c = all 0 2 (λ n. all 1 21 (λ k. known? (scale k n c) (1000 + k)))
@@ -105,7 +105,7 @@ counting S w =
       teen = λ v a b. knows (teenForm S v) v (all-at 10 10 (λ v. known? (teenForm S v) v) (sign-at teens? (passes .2) p c q h) v a (omega arith));
       unit = λ u a b. knows (unitForm S u) u
           (all-at 1 9 (λ u. known? (unitForm S u) u)
-          (all-at 0 3 (λ g. all 1 9 (λ u. known? (unitForm (ukrainianSettings g 0 c p) u) u)) (sign-at units? (passes .3) p c q h) (S .gender) (omega arith) (w .0)) u a (omega arith));
+          (all-at 0 3 (λ g. all 1 9 (λ u. known? (unitForm (ukrainianSettings g 0 c p 0) u) u)) (sign-at units? (passes .3) p c q h) (S .gender) (omega arith) (w .0)) u a (omega arith));
     }
 
 -- a scale noun by the settings in which it agrees

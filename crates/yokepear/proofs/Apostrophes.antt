@@ -62,8 +62,8 @@ module _ (S : Settings) (a : ℕ) where
 -- of every call: where nothing is refused, the phrase under an apostrophe is the phrase under 0 with the apostrophe's sign in place of each U+02BC
 pub apostrophe-replaced : {call : ℕ → SpellingCall} → OverApostrophe call → (a : ℕ) → spellingOf (call a) .refusal ≡ 0
     → spellingOf (call a) .phrase ≡ replaced (signBytes a) (spellingOf (call 0) .phrase)
-apostrophe-replaced (cardinal gender number case t) a e = turned (cardinals (ukrainianSettings gender number case 0) a t e)
-apostrophe-replaced (ordinal gender number case t) a e = turned (ordinals (ukrainianSettings gender number case 0) a t e)
-apostrophe-replaced (ordinalNum gender number case t) a e = turned (digit-ordinals (ukrainianSettings gender number case 0) a t e)
-apostrophe-replaced (year gender number case y) a e = turned (years (ukrainianSettings gender number case 0) a y e)
-apostrophe-replaced (currency gender number case code t) a e = turned (money (ukrainianSettings gender number case 0) a code t e)
+apostrophe-replaced (cardinal gender number case style t) a e = turned (cardinals (ukrainianSettings gender number case 0 style) a t e)
+apostrophe-replaced (ordinal gender number case style t) a e = turned (ordinals (ukrainianSettings gender number case 0 style) a t e)
+apostrophe-replaced (ordinalNum gender number case style t) a e = turned (digit-ordinals (ukrainianSettings gender number case 0 style) a t e)
+apostrophe-replaced (year gender number case style y) a e = turned (years (ukrainianSettings gender number case 0 style) a y e)
+apostrophe-replaced (currency gender number case style code t) a e = turned (money (ukrainianSettings gender number case 0 style) a code t e)

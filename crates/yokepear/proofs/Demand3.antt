@@ -6,16 +6,28 @@ use mathlib.Core.Path.{_≡_}
 use mathlib.Core.List.{List}
 use Rattle.base.specs.Claim.{Inverse}
 use Rattle.settings.specs.Settings.{ukrainianSettings, frenchSettings}
-use Rattle.figures.specs.Refusals.{ukrainianDigitLimit, frenchDigitLimit, cardinalRefusals, ordinalRefusals, amountRefusals, Admitted}
+use Rattle.figures.specs.Refusals.{ukrainianDigitLimit, frenchDigitLimit, cardinalRefusals, ordinalRefusals, yearRefusals, amountRefusals, Admitted}
 use Rattle.uk_calls.proofs.Theorem as uk-theorem
+use Rattle.uk_ordinal_calls.specs.UkOrdinals.{yearText}
+use Rattle.uk_ordinal_calls.proofs.Theorem as uk-ordinal-theorem
 use Rattle.uk_money_calls.proofs.Theorem as uk-money-theorem
 use Rattle.fr_calls.proofs.Theorems as fr-theorems
-use Rattle.yokepear.specs.Calls.{toCardinal, toCurrency, toFrenchCardinal, toFrenchOrdinal, spellingOf, fromCardinal, fromCurrency, fromFrenchCardinal, fromFrenchOrdinal, readingOf}
+use Rattle.yokepear.specs.Calls.{toCardinal, toOrdinal, toCurrency, toFrenchCardinal, toFrenchOrdinal, spellingOf, fromCardinal, fromOrdinal, fromYear, fromCurrency, fromFrenchCardinal, fromFrenchOrdinal, readingOf}
 
 -- Ukrainian cardinals
 pub ukrainian-cardinals : (gender number case apostrophe style : ℕ) → readingOf (fromCardinal gender number case apostrophe style) .refusal ≡ 0
     → Inverse (λ (t : List ℕ). Admitted (cardinalRefusals ukrainianDigitLimit t)) (λ (t : List ℕ). spellingOf (toCardinal gender number case apostrophe style t)) (readingOf (fromCardinal gender number case apostrophe style))
 ukrainian-cardinals gender number case apostrophe style = uk-theorem.cardinals (ukrainianSettings gender number case apostrophe style)
+
+-- Ukrainian ordinals as taught in school
+pub ukrainian-ordinals : (gender number case apostrophe style : ℕ) → readingOf (fromOrdinal gender number case apostrophe style) .refusal ≡ 0
+    → Inverse (λ (t : List ℕ). Admitted (ordinalRefusals ukrainianDigitLimit t)) (λ (t : List ℕ). spellingOf (toOrdinal gender number case apostrophe style t)) (readingOf (fromOrdinal gender number case apostrophe style))
+ukrainian-ordinals gender number case apostrophe style = uk-ordinal-theorem.ordinals (ukrainianSettings gender number case apostrophe style)
+
+-- Ukrainian years as taught in school, by the texts that name them: the spelling call is given the year itself
+pub ukrainian-years : (gender number case apostrophe style : ℕ) → readingOf (fromYear gender number case apostrophe style) .refusal ≡ 0
+    → Inverse (λ (t : List ℕ). Admitted (yearRefusals t)) (λ (t : List ℕ). yearText (ukrainianSettings gender number case apostrophe style) t) (readingOf (fromYear gender number case apostrophe style))
+ukrainian-years gender number case apostrophe style = uk-ordinal-theorem.years (ukrainianSettings gender number case apostrophe style)
 
 -- Ukrainian money
 pub ukrainian-money : (gender number case apostrophe style : ℕ) (code : List ℕ) → readingOf (fromCurrency gender number case apostrophe style code) .refusal ≡ 0

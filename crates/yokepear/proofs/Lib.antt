@@ -3,3 +3,4 @@ pub mod Numbers
 pub mod Words
 pub mod Apostrophes
 pub mod Measuring
+pub mod OneNumber

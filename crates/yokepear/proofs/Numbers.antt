@@ -2,7 +2,7 @@
 -- Assumes nothing.
 use Prim.Native.Nat.{ℕ, zero, suc, _≤_}
 use mathlib.Core.Path.{_≡_, refl}
-use mathlib.Core.Bool.{Bool, true, false, cond}
+use mathlib.Core.Bool.{Bool, true, false, cond, not}
 use mathlib.Core.Logic.{inl, inr}
 use mathlib.Core.List.{List, [], _∷_}
 use mathlib.Core.Option.{Option, none, some}
@@ -11,18 +11,21 @@ use lib.Dec.{ltb}
 use lib.ListN.{length}
 use Rattle.base.specs.Answer.{wrongSetting, wrongCode, malformed, wrongSign, tooLarge, noSentence, noRoom, firstOf, Reply, refused, bytes, numberOf, fitted, unless, replied, Answers}
 use Rattle.base.specs.Measure.{measureUnless, measured}
-use Rattle.base.specs.Reading.{Replies, earlier, sentence, otherwise, Reads}
+use Rattle.base.specs.Reading.{Reading, Replies, earlier, sentence, otherwise, Reads}
 use Rattle.base.specs.declared.Answer.{Answer}
 use Rattle.base.specs.declared.Measure.{Measure}
 use Rattle.settings.specs.Settings.{ukrainianSettings, frenchSettings, ukrainianRanges, frenchRanges}
 use Rattle.settings.specs.Refused.{outOfRange}
+use Rattle.settings.specs.declared.Settings.{Settings}
 use Rattle.figures.specs.Refusals.{ukrainianDigitLimit, frenchDigitLimit, cardinalRefusals, ordinalRefusals, digitOrdinalRefusals, amountRefusals}
+use Rattle.uk_ordinal.specs.Ordinal.{school}
+use Rattle.uk_ordinal_calls.specs.UkOrdinals.{readingRefusal}
 use Rattle.uk_money.specs.Currencies.{Currency}
 use Rattle.uk_money.specs.Codes.{currencyOf, unknown}
-use Rattle.yokepear.specs.Calls.{SpellingCall, spellingOf, readingOf, toCardinal, toOrdinal, toOrdinalNum, toYear, toCurrency, toFrenchCardinal, toFrenchOrdinal, ReadingCall, fromCardinal, fromCurrency, fromFrenchCardinal, fromFrenchOrdinal, Called, bySpelling, byReading, OneOf}
+use Rattle.yokepear.specs.Calls.{SpellingCall, spellingOf, readingOf, toCardinal, toOrdinal, toOrdinalNum, toYear, toCurrency, toFrenchCardinal, toFrenchOrdinal, ReadingCall, fromCardinal, fromOrdinal, fromYear, fromCurrency, fromFrenchCardinal, fromFrenchOrdinal, Called, bySpelling, byReading, OneOf}
 
 -- what holds of 0 and the numbers of the conditions that a call names holds of its refusal; and if of 7 too, of the number that it answers with
-module _ (P : ℕ → Type 0) (none-is : P 0) (setting-is : P wrongSetting) (code-is : P wrongCode) where
+module _ (P : ℕ → Type 0) (none-is : P 0) (setting-is : P wrongSetting) where
   abbrev Each : List (Bool × ℕ) → Type 0
   Each [] = Unit
   Each (c ∷ cs) = P (c .1) × Each cs
@@ -38,18 +41,9 @@ module _ (P : ℕ → Type 0) (none-is : P 0) (setting-is : P wrongSetting) (cod
   settings-then : (rs : List (ℕ × ℕ)) (cs : List (Bool × ℕ)) → Each cs → P (firstOf (outOfRange rs ∷ cs))
   settings-then rs cs p = first-is (outOfRange rs ∷ cs) (setting-is, p)
 
-  unknown-is : (c : Option Currency) → P (unknown c .1)
-  unknown-is none = code-is
-  unknown-is (some c) = code-is
-
-  refusal-is : P malformed → P wrongSign → P tooLarge → (call : SpellingCall) → P (spellingOf call .refusal)
-  refusal-is text sign size (toCardinal gender number case apostrophe style t) = settings-then (ukrainianRanges (ukrainianSettings gender number case apostrophe style)) (cardinalRefusals ukrainianDigitLimit t) (text, (size, tt))
-  refusal-is text sign size (toOrdinal gender number case apostrophe style t) = settings-then (ukrainianRanges (ukrainianSettings gender number case apostrophe style)) (ordinalRefusals ukrainianDigitLimit t) (text, (sign, (size, tt)))
-  refusal-is text sign size (toOrdinalNum gender number case apostrophe style t) = settings-then (ukrainianRanges (ukrainianSettings gender number case apostrophe style)) (digitOrdinalRefusals t) (text, (sign, (size, tt)))
-  refusal-is text sign size (toYear gender number case apostrophe style y) = settings-then (ukrainianRanges (ukrainianSettings gender number case apostrophe style)) [] tt
-  refusal-is text sign size (toCurrency gender number case apostrophe style code t) = settings-then (ukrainianRanges (ukrainianSettings gender number case apostrophe style)) (unknown (currencyOf code) ∷ amountRefusals t) (unknown-is (currencyOf code), (text, (sign, (size, tt))))
-  refusal-is text sign size (toFrenchCardinal feminine reformed region t) = settings-then (frenchRanges (frenchSettings feminine reformed region)) (cardinalRefusals frenchDigitLimit t) (text, (size, tt))
-  refusal-is text sign size (toFrenchOrdinal feminine reformed region t) = settings-then (frenchRanges (frenchSettings feminine reformed region)) (ordinalRefusals frenchDigitLimit t) (text, (sign, (size, tt)))
+  -- the settings of a call that reads what is taught in school alone
+  school-then : (S : Settings) → P (readingRefusal S)
+  school-then S = settings-then (ukrainianRanges S) ((not (school S), wrongSetting) ∷ []) (setting-is, tt)
 
   module _ (room-is : P noRoom) where
     fitted-is : (xs b : List ℕ) → P (numberOf (fitted xs b))
@@ -63,19 +57,40 @@ module _ (P : ℕ → Type 0) (none-is : P 0) (setting-is : P wrongSetting) (cod
     replied-is zero xs b p = fitted-is xs b
     replied-is (suc n) xs b p = p
 
-    spelling-is : P malformed → P wrongSign → P tooLarge → (call : SpellingCall) (xs : List ℕ) → P (numberOf (replied (spellingOf call) xs))
-    spelling-is text sign size call xs = replied-is (spellingOf call .refusal) xs (spellingOf call .phrase) (refusal-is text sign size call)
+    reading-by : (R : Reading) → P (R .refusal) → P noSentence → {s xs : List ℕ} {reply : Reply} → Replies R s xs reply → P (numberOf reply)
+    reading-by R first six (earlier f) = first
+    reading-by R first six {s} {xs} (sentence z t m) = fitted-is xs t
+    reading-by R first six (otherwise z f) = six
 
-    reading-is : P noSentence → (call : ReadingCall) {s xs : List ℕ} {reply : Reply} → Replies (readingOf call) s xs reply → P (numberOf reply)
-    reading-is six call {s} {xs} (earlier f) = go call
-      where
-        go : (call : ReadingCall) → P (readingOf call .refusal)
-        go (fromCardinal gender number case apostrophe style) = settings-then (ukrainianRanges (ukrainianSettings gender number case apostrophe style)) [] tt
-        go (fromCurrency gender number case apostrophe style code) = settings-then (ukrainianRanges (ukrainianSettings gender number case apostrophe style)) (unknown (currencyOf code) ∷ []) (unknown-is (currencyOf code), tt)
-        go (fromFrenchCardinal feminine reformed region) = settings-then (frenchRanges (frenchSettings feminine reformed region)) [] tt
-        go (fromFrenchOrdinal feminine reformed region) = settings-then (frenchRanges (frenchSettings feminine reformed region)) [] tt
-    reading-is six call {s} {xs} (sentence z t m) = fitted-is xs t
-    reading-is six call {s} {xs} (otherwise z f) = six
+  -- where calls may name a code too
+  module _ (code-is : P wrongCode) where
+    unknown-is : (c : Option Currency) → P (unknown c .1)
+    unknown-is none = code-is
+    unknown-is (some c) = code-is
+
+    refusal-is : P malformed → P wrongSign → P tooLarge → (call : SpellingCall) → P (spellingOf call .refusal)
+    refusal-is text sign size (toCardinal gender number case apostrophe style t) = settings-then (ukrainianRanges (ukrainianSettings gender number case apostrophe style)) (cardinalRefusals ukrainianDigitLimit t) (text, (size, tt))
+    refusal-is text sign size (toOrdinal gender number case apostrophe style t) = settings-then (ukrainianRanges (ukrainianSettings gender number case apostrophe style)) (ordinalRefusals ukrainianDigitLimit t) (text, (sign, (size, tt)))
+    refusal-is text sign size (toOrdinalNum gender number case apostrophe style t) = settings-then (ukrainianRanges (ukrainianSettings gender number case apostrophe style)) (digitOrdinalRefusals t) (text, (sign, (size, tt)))
+    refusal-is text sign size (toYear gender number case apostrophe style y) = settings-then (ukrainianRanges (ukrainianSettings gender number case apostrophe style)) [] tt
+    refusal-is text sign size (toCurrency gender number case apostrophe style code t) = settings-then (ukrainianRanges (ukrainianSettings gender number case apostrophe style)) (unknown (currencyOf code) ∷ amountRefusals t) (unknown-is (currencyOf code), (text, (sign, (size, tt))))
+    refusal-is text sign size (toFrenchCardinal feminine reformed region t) = settings-then (frenchRanges (frenchSettings feminine reformed region)) (cardinalRefusals frenchDigitLimit t) (text, (size, tt))
+    refusal-is text sign size (toFrenchOrdinal feminine reformed region t) = settings-then (frenchRanges (frenchSettings feminine reformed region)) (ordinalRefusals frenchDigitLimit t) (text, (sign, (size, tt)))
+
+    reading-first : (call : ReadingCall) → P (readingOf call .refusal)
+    reading-first (fromCardinal gender number case apostrophe style) = settings-then (ukrainianRanges (ukrainianSettings gender number case apostrophe style)) [] tt
+    reading-first (fromOrdinal gender number case apostrophe style) = school-then (ukrainianSettings gender number case apostrophe style)
+    reading-first (fromYear gender number case apostrophe style) = school-then (ukrainianSettings gender number case apostrophe style)
+    reading-first (fromCurrency gender number case apostrophe style code) = settings-then (ukrainianRanges (ukrainianSettings gender number case apostrophe style)) (unknown (currencyOf code) ∷ []) (unknown-is (currencyOf code), tt)
+    reading-first (fromFrenchCardinal feminine reformed region) = settings-then (frenchRanges (frenchSettings feminine reformed region)) [] tt
+    reading-first (fromFrenchOrdinal feminine reformed region) = settings-then (frenchRanges (frenchSettings feminine reformed region)) [] tt
+
+    module _ (room-is : P noRoom) where
+      spelling-is : P malformed → P wrongSign → P tooLarge → (call : SpellingCall) (xs : List ℕ) → P (numberOf (replied (spellingOf call) xs))
+      spelling-is text sign size call xs = replied-is room-is (spellingOf call .refusal) xs (spellingOf call .phrase) (refusal-is text sign size call)
+
+      reading-is : P noSentence → (call : ReadingCall) {s xs : List ℕ} {reply : Reply} → Replies (readingOf call) s xs reply → P (numberOf reply)
+      reading-is six call q = reading-by room-is (readingOf call) (reading-first call) six q
 
 -- "Spelling never gives 6"
 pub spelling-never-6 : (call : SpellingCall) (r : Answer) (xs ys : List ℕ) → Answers r xs ys (replied (spellingOf call) xs) → r .number ≡ noSentence → ⊥
@@ -86,6 +101,22 @@ pub reading-gives : (call : ReadingCall) (s : List ℕ) (r : Answer) (xs ys : Li
 reading-gives call s r xs ys p =
     rw (p .isAnswer .reported)
     (reading-is (OneOf (0 ∷ wrongSetting ∷ wrongCode ∷ noSentence ∷ noRoom ∷ [])) (inl refl) (inr (inl refl)) (inr (inr (inl refl))) (inr (inr (inr (inr (inl refl))))) (inr (inr (inr (inl refl)))) call (p .isReply))
+
+-- of ordinals and of years it "gives 1 (under style 0 too), 6 or 7 only" (02, W3)
+module _ (gender number case apostrophe style : ℕ) {s xs ys : List ℕ} {r : Answer} where
+  abbrev OrdinalNumber : ℕ → Type 0
+  OrdinalNumber n = OneOf (0 ∷ wrongSetting ∷ noSentence ∷ noRoom ∷ []) n
+
+  gives : (R : Reading) → R .refusal ≡ readingRefusal (ukrainianSettings gender number case apostrophe style) → Reads R s r xs ys → OrdinalNumber (r .number)
+  gives R e p =
+      let first = school-then OrdinalNumber (inl refl) (inr (inl refl)) (ukrainianSettings gender number case apostrophe style) in
+      rw (p .isAnswer .reported) (reading-by OrdinalNumber (inl refl) (inr (inl refl)) (inr (inr (inr (inl refl)))) R (rw e first) (inr (inr (inl refl))) (p .isReply))
+
+  pub ordinal-reading-gives : Reads (readingOf (fromOrdinal gender number case apostrophe style)) s r xs ys → OneOf (0 ∷ wrongSetting ∷ noSentence ∷ noRoom ∷ []) (r .number)
+  ordinal-reading-gives = gives (readingOf (fromOrdinal gender number case apostrophe style)) refl
+
+  pub year-reading-gives : Reads (readingOf (fromYear gender number case apostrophe style)) s r xs ys → OneOf (0 ∷ wrongSetting ∷ noSentence ∷ noRoom ∷ []) (r .number)
+  year-reading-gives = gives (readingOf (fromYear gender number case apostrophe style)) refl
 
 -- a measuring call's refusal is the spelling call's: "Refusals 1 to 5 come in their old order; 7 never occurs here" (02, W1)
 measured-refusal : (n : ℕ) (phrase : List ℕ) → measureUnless n phrase .refusal ≡ n

@@ -22,7 +22,7 @@ amount-spec =
     (λ c. simp length-take (omega arith))
     (λ c κs. search needs)
     (λ c κs. let s = c .before .before .before .before .before .before .before .before .before .before .before .before .before in let a = s .args in let k = a .code .now in let t = inner (a .t .now) in let q = c .before .before .before .to-currency in
-    (small-number (q .result) (ukToCurrency (lineSettings (a .gender) (a .number) (a .case)) k t) (a .out .now) _ (q .ensures .1) (s .pre) (amount-small (ukrainianRanges (lineSettings (a .gender) (a .number) (a .case))) t (currencyOf k)) (q .ensures .0), q .ensures .1, omega (arith, s .pre, q .kept .1 .1 .1 .1 .1 .1 .0)))
+    (small-number (q .result) (ukToCurrency (lineSettings (a .gender) (a .number) (a .case)) k t) (a .out .now) _ (q .ensures .1) (s .pre) (amount-small (ukrainianRanges (lineSettings (a .gender) (a .number) (a .case))) t (currencyOf k)) (q .ensures .0), q .ensures .1, omega (arith, s .pre, q .kept .1 .1 .1 .1 .1 .1 .1 .0)))
     (λ c. search needs)
     (λ c. let s = c .before .before .before .before .before .before .before .before .before .before .before .before .before .before .before .before in let a = s .args in let k = a .code .now in let t = a .t .now in let q = c .before .before .before .before .before .before .to-currency in
     let e : (run k && closed t) ≡ true = rw (sym (c .before .before .before .before .before .before .before .before .before .before .before .before .is-run .ensures) ∙ c .before .before .before .before .before .before .before .before .before .before .before .if1 .taken, sym (c .before .before .before .before .before .before .before .before .before .before .is-closed .ensures) ∙ c .before .before .before .before .before .before .before .before .before .if2 .taken) refl in

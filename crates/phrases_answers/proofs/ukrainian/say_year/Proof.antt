@@ -24,7 +24,7 @@ say-year-spec =
     let o : SFits w64 (c .before .before .before .before .before .year-of .result) = record { sfits = c .before .before .before .before .before .year-of .ok } in
     let z : firstOf (yearRefusals t) ≡ 0 = sym (c .before .before .before .before .before .before .before .number-of .ensures ∙ c .before .before .before .before .before .before .before .before .judge-year .ensures) ∙ c .before .before .before .before .before .before .if1 .taken in
     let e = year-asked (lineSettings (a .gender) (a .number) (a .case)) t (s .pre .0) _ (toZ-ofZ o ∙ c .before .before .before .before .before .year-of .ensures) z (k .ensures .0) in
-    (small-number (k .result) (yearText (lineSettings (a .gender) (a .number) (a .case)) t) (a .out .now) _ (k .ensures .1) (s .pre .1) (rw (year-refusal (lineSettings (a .gender) (a .number) (a .case)) t (s .pre .0)) (year-small t)) e, k .ensures .1, omega (arith, s .pre .1, k .kept .1 .1 .1 .1 .1 .0)))
+    (small-number (k .result) (yearText (lineSettings (a .gender) (a .number) (a .case)) t) (a .out .now) _ (k .ensures .1) (s .pre .1) (rw (year-refusal (lineSettings (a .gender) (a .number) (a .case)) t (s .pre .0)) (year-small t)) e, k .ensures .1, omega (arith, s .pre .1, k .kept .1 .1 .1 .1 .1 .1 .0)))
     (λ c. search needs)
     (λ c. let s = c .before .before .before .before .before .before .before .before .before .before .before .before .before .before in let a = s .args in let t = a .text .now in let k = c .before .before .before .before .before .before .to-year in
     let o : SFits w64 (c .before .before .before .before .before .before .before .before .year-of .result) = record { sfits = c .before .before .before .before .before .before .before .before .year-of .ok } in
