@@ -8,13 +8,13 @@ use native.Mathlib.Omega.{arith}
 use native.Mathlib.Nat.{lt-of-le-of-lt}
 use borrow.Author.Tests.{ne-eqb, ltb-true, ltb-false, le-ltb}
 use lib.Dec.{eqb, ltb}
-use Rattle.tables.proofs.Tests.{clash}
+use Rattle.tables.proofs.Tests.{clash, clash-of}
 use Rattle.base.specs.Answer.{wrongSetting, malformed, tooLarge, firstOf, Reply}
 use Rattle.base.specs.Reading.{Replies, earlier, sentence, otherwise, Reads}
 use Rattle.base.specs.declared.Answer.{Answer}
 use Rattle.base.specs.Join.{joined}
 use Rattle.base.proofs.Closing.{Readable}
-use Rattle.settings.specs.Settings.{masculine, ukrainianRanges, Within, inGender}
+use Rattle.settings.specs.Settings.{masculine, ukrainianRanges, within, Within, inGender}
 use Rattle.settings.specs.Refused.{outOfRange}
 use Rattle.settings.specs.declared.Settings.{Settings}
 use Rattle.settings.proofs.Ranges.{Unrefused, unrefused}
@@ -24,14 +24,35 @@ use Rattle.figures.specs.Value.{IsNumber, NumberMeans}
 use Rattle.figures.specs.Written.{signedDecimal}
 use Rattle.figures.specs.Year.{yearOf, yearLimit}
 use Rattle.figures.proofs.Laws.Sign.{zero-plain, number-is}
+use Rattle.numerals.proofs.Readings.{Bounded}
 use Rattle.cardinals.proofs.Inverse as laws
 use Rattle.cardinals.proofs.Inverse.{OnePhrase}
 use Rattle.uk_ordinal.specs.Ordinal.{school, ordinalWords}
-use Rattle.uk_ordinal.specs.Year.{yearNoun, eraWords, yearWords}
+use Rattle.uk_ordinal.specs.Year.{yearNoun, eraWords}
 use Rattle.uk_ordinal_read.specs.Guess.{ordinalNumber, seemsEarly, yearOrdinal}
 use Rattle.uk_ordinal_read.specs.Promise.{SaysOrdinal, signedYear, SaysYear}
 use Rattle.uk_ordinal_read.proofs.Guessed.{ordinal-guessed, year-guessed}
+use Rattle.uk_ordinal_read.proofs.Answers.{year-phrase, year-small}
 use Rattle.uk_ordinal_calls.specs.UkOrdinals.{ukToOrdinal, ukToYear, yearText, readingRefusal}
+
+-- whether a reading call refuses nothing, by the settings and the style; and what it refuses, if it does
+pub refuses-none : (S : Settings) → within (ukrainianRanges S) ≡ true → school S ≡ eqb (readingRefusal S) 0
+refuses-none S w = rw w (go (school S))
+  where
+    go : (b : Bool) → b ≡ eqb (cond (not b) wrongSetting 0) 0
+    go true = refl
+    go false = refl
+
+pub refuses-range : (S : Settings) → within (ukrainianRanges S) ≡ false → false ≡ eqb (readingRefusal S) 0
+refuses-range S w = rw w refl
+
+pub refuses-one : (S : Settings) → false ≡ eqb (readingRefusal S) 0 → readingRefusal S ≡ wrongSetting
+refuses-one S e = go (within (ukrainianRanges S)) (school S) e
+  where
+    go : (w b : Bool) → false ≡ eqb (cond (not w) wrongSetting (cond (not b) wrongSetting 0)) 0 → cond (not w) wrongSetting (cond (not b) wrongSetting 0) ≡ wrongSetting
+    go false b e = refl
+    go true false e = refl
+    go true true e = clash-of e
 
 -- a reading call that refuses nothing has its settings in their ranges, and the style of school
 module _ (S : Settings) (v : readingRefusal S ≡ 0) where
@@ -48,7 +69,11 @@ module _ (S : Settings) (v : readingRefusal S ≡ 0) where
       go true e = refl
       go false e = absurd (omega arith)
 
-  -- so a spelling call refuses what the conditions behind its settings do
+  -- so its settings make a record
+  pub read-test : within (ukrainianRanges S) ≡ true
+  read-test = in-ranges .test
+
+  -- and a spelling call refuses what the conditions behind its settings do
   pub behind : (cs : List (Bool × ℕ)) → firstOf (outOfRange (ukrainianRanges S) ∷ cs) ≡ firstOf cs
   behind cs = rw (in-ranges .test) refl
 
@@ -72,6 +97,10 @@ module _ (S : Settings) (v : readingRefusal S ≡ 0) where
   pub ordinal-texts : Readable OrdinalText (λ (t : List ℕ). ukToOrdinal S t .phrase) (λ (s t : List ℕ). NumberMeans (SaysOrdinal S s) t)
   ordinal-texts = laws.readable (ordinal-phrases S) (omega arith) (omega arith) (λ (s : List ℕ). false) (ordinalNumber S) found
 
+-- no ordinal has more digits than a text, nor a sign
+pub ordinal-bounded : (S : Settings) (s : List ℕ) → Bounded (SaysOrdinal S s)
+ordinal-bounded S s = record { small = λ p. laws.few-digits (ordinal-phrases S) (omega arith) (omega arith) p; some = λ p. clash (p .unsigned) }
+
 -- a kind whose meaning is given by spelling, where it is that of numbers too
 module _ {IsAdmitted : List ℕ → Type 0} {phrase : List ℕ → List ℕ} {Means : List ℕ → List ℕ → Type 0} (R : Readable IsAdmitted phrase Means) where
   abbrev Spelled : List ℕ → List ℕ → Type 0
@@ -93,27 +122,11 @@ module _ {IsAdmitted : List ℕ → Type 0} {phrase : List ℕ → List ℕ} {Me
       go (sentence z t m) = sentence z t (R .meansPhrase s t m)
       go (otherwise z f) = otherwise z (λ t m. f t (means s t m))
 
--- a year's words are those of its magnitude, and what an early year adds
-year-words : (S : Settings) (m : Bool) (n : ℕ) → (n ≡ 0 → m ≡ false) → yearWords S (signedYear m n) ≡ ordinalWords (inGender masculine S) n ++ (yearNoun S ∷ eraWords (m || eqb n 0))
-unfolding yearWords
-year-words S true zero z = clash (z refl)
-year-words S true (suc n) z = refl
-year-words S false zero z = refl
-year-words S false (suc n) z = rw (ne-eqb (suc n) 0 (λ e. omega arith)) refl
-
 -- the sign of a year that is, or is not, early
 year-sign : (m : Bool) (n : ℕ) → (n ≡ 0 → m ≡ false) → cond (eqb n 0) false (m || eqb n 0) ≡ m
 year-sign m zero z = sym (z refl)
 year-sign true (suc n) z = rw (ne-eqb (suc n) 0 (λ e. omega arith)) refl
 year-sign false (suc n) z = rw (ne-eqb (suc n) 0 (λ e. omega arith)) refl
-
--- a year's magnitude has at most 22 groups
-limit-held : (m : Bool) (n : ℕ) → n ≤ yearLimit m → n < 1000 ^ 22
-limit-held m n h = lt-of-le-of-lt h (go m)
-  where
-    go : (m : Bool) → yearLimit m < 1000 ^ 22
-    go true = ltb-true (2 ^ 63) (1000 ^ 22) refl
-    go false = ltb-true (2 ^ 63 - 1) (1000 ^ 22) refl
 
 -- a year's text that is not refused, and the other way round
 pub year-fine : (t : List ℕ) → Admitted (yearRefusals t) → (wellFormed t ≡ true) × (value (unsigned t) ≤ yearLimit (negative t))
@@ -136,6 +149,13 @@ year-digits m n h = lt-of-le-of-lt h (go m)
     go true = ltb-true (2 ^ 63) (10 ^ 102) refl
     go false = ltb-true (2 ^ 63 - 1) (10 ^ 102) refl
 
+pub year-bounded : (S : Settings) (s : List ℕ) → Bounded (SaysYear S s)
+year-bounded S s = record { small = λ {m} {n} p. year-digits m n (p .held); some = λ {n} p. some n (p .zeroPlain) }
+  where
+    some : (n : ℕ) → (n ≡ 0 → true ≡ false) → 0 < n
+    some zero z = clash (z refl)
+    some (suc n) z = omega arith
+
 module _ (S : Settings) (v : readingRefusal S ≡ 0) where
   abbrev M : Settings
   M = inGender masculine S
@@ -150,8 +170,8 @@ module _ (S : Settings) (v : readingRefusal S ≡ 0) where
   pub found-year : (s : List ℕ) (m : Bool) (n : ℕ) → SaysYear S s m n → (yearSign s ≡ m) × (yearNumber s ≡ n)
   unfolding yearSign yearNumber
   found-year s m n w =
-      let e : joined (ordinalWords M n ++ (yearNoun S ∷ eraWords (m || eqb n 0))) ≡ s = ap joined (sym (year-words S m n (w .zeroPlain))) ∙ w .spelled in
-      let g = year-guessed S (read-settings S v) (read-school S v) (m || eqb n 0) n (limit-held m n (w .held)) in
+      let e : joined (ordinalWords M n ++ (yearNoun S ∷ eraWords (m || eqb n 0))) ≡ s = sym (year-phrase S m n) ∙ w .spelled in
+      let g = year-guessed S (read-settings S v) (read-school S v) (m || eqb n 0) n (year-small S m n (w .held)) in
       let early : seemsEarly s ≡ (m || eqb n 0) = rw e at (g .0) in
       let number : ordinalNumber M (yearOrdinal S (m || eqb n 0) s) ≡ n = rw e at (g .1) in
       (rw (early, number) (year-sign m n (w .zeroPlain)), rw early number)

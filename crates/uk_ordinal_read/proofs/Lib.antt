@@ -1,0 +1,10 @@
+pub mod Stems
+pub mod Compounds
+pub mod LastWords
+pub mod Parts
+pub mod Guessed
+pub mod Counting
+pub mod Ends
+pub mod Years
+pub mod Adding
+pub mod Answers

@@ -17,13 +17,13 @@ const COUNT_WORDS: usize = 4;
 const HUNDREDS: u32 = 1000;
 
 // What the count words at the front of a stem count, and where they end.
-struct Count {
+struct Counted {
     value: u16,
     next: usize,
 }
 
 // A last word's order, and its number there.
-pub struct Last {
+pub struct Meant {
     pub order: usize,
     pub value: u16,
 }
@@ -40,7 +40,7 @@ fn grown(value: u16, more: u32) -> u16
 }
 
 // The count at the front of a stem.
-fn count(s: &[u8]) -> Count
+fn count(s: &[u8]) -> Counted
     ensures { λ r. ⌜ (r .value ≡ counted 4 0 (now (s .entry))) × (r .value < 1000) ⌝ }
     ensures { λ r. ⌜ (drop (r .next) (now (s .entry)) ≡ uncounted 4 (now (s .entry))) × (r .next ≤ length (now (s .entry))) ⌝ }
 {
@@ -50,17 +50,17 @@ fn count(s: &[u8]) -> Count
     while 0 < left {
         let c = uk_counts::count(&s[at..]);
         if c == 0 {
-            return Count { value, next: at };
+            return Counted { value, next: at };
         }
         value = grown(value, c / SIZES);
         at += (c % SIZES) as usize;
         left -= 1;
     }
-    Count { value, next: at }
+    Counted { value, next: at }
 }
 
 // A compound: a scale without a count is one.
-fn compound(stem: &[u8]) -> Last
+fn compound(stem: &[u8]) -> Meant
     requires { ⌜ isCompound (now stem) ≡ true ⌝ }
     ensures { λ r. ⌜ (r .order ≡ stemOrder (now (stem .entry))) × (r .value ≡ stemValue (now (stem .entry))) × (r .order < 22) × (r .value < 1000) ⌝ }
 {
@@ -70,16 +70,16 @@ fn compound(stem: &[u8]) -> Last
     let m = uk_ordinal_meanings::meaning(t.key);
     let order = m as usize % 1000 % ORDERS;
     if c.value == 0 {
-        return Last { order, value: 1 };
+        return Meant { order, value: 1 };
     }
-    Last {
+    Meant {
         order,
         value: c.value,
     }
 }
 
 // A stem's order and number.
-pub fn last(stem: &[u8]) -> Last
+pub fn last(stem: &[u8]) -> Meant
     ensures { λ r. ⌜ (r .order ≡ stemOrder (now (stem .entry))) × (r .value ≡ stemValue (now (stem .entry))) × (r .order < 22) × (r .value < 1000) ⌝ }
 {
     let n = stem.len();
@@ -90,7 +90,7 @@ pub fn last(stem: &[u8]) -> Last
     }
     let t = tokens::first(stem);
     let m = uk_ordinal_meanings::meaning(t.key);
-    Last {
+    Meant {
         order: 0,
         value: m % 1000,
     }
