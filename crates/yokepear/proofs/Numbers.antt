@@ -103,10 +103,10 @@ reading-gives call s r xs ys p =
     (reading-is (OneOf (0 ∷ wrongSetting ∷ wrongCode ∷ noSentence ∷ noRoom ∷ [])) (inl refl) (inr (inl refl)) (inr (inr (inl refl))) (inr (inr (inr (inr (inl refl))))) (inr (inr (inr (inl refl)))) call (p .isReply))
 
 -- of ordinals and of years it "gives 1 (under style 0 too), 6 or 7 only" (02, W3)
-module _ (gender number case apostrophe style : ℕ) {s xs ys : List ℕ} {r : Answer} where
-  abbrev OrdinalNumber : ℕ → Type 0
-  OrdinalNumber n = OneOf (0 ∷ wrongSetting ∷ noSentence ∷ noRoom ∷ []) n
+abbrev OrdinalNumber : ℕ → Type 0
+OrdinalNumber n = OneOf (0 ∷ wrongSetting ∷ noSentence ∷ noRoom ∷ []) n
 
+module _ (gender number case apostrophe style : ℕ) {s xs ys : List ℕ} {r : Answer} where
   gives : (R : Reading) → R .refusal ≡ readingRefusal (ukrainianSettings gender number case apostrophe style) → Reads R s r xs ys → OrdinalNumber (r .number)
   gives R e p =
       let first = school-then OrdinalNumber (inl refl) (inr (inl refl)) (ukrainianSettings gender number case apostrophe style) in
