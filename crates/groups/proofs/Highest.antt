@@ -136,3 +136,17 @@ module _ (gs : List ℕ) (n k : ℕ) (t : Highest gs n) where
 -- the groups from an order on: one of them, and the others
 pub total-from : (gs : List ℕ) (i : ℕ) → i < length gs → total (drop i gs) ≡ getD gs i 0 + 1000 * total (drop (i + 1) gs)
 total-from gs i h = rw (drop-cons gs i 0 h, add-one i) refl
+
+-- a number by its seven lowest groups and those above them
+pub total-seven : (gs : List ℕ) → 7 ≤ length gs
+    → total gs ≡ getD gs 0 0 + 1000 * getD gs 1 0 + 1000000 * getD gs 2 0 + 1000000000 * getD gs 3 0 + 1000000000000 * getD gs 4 0 + 1000000000000000 * getD gs 5 0
+    + 1000000000000000000 * (getD gs 6 0 + 1000 * total (drop 7 gs))
+total-seven gs z =
+    let a = total-from gs 0 (omega arith) in
+    let b = total-from gs 1 (omega arith) in
+    let c = total-from gs 2 (omega arith) in
+    let d = total-from gs 3 (omega arith) in
+    let e = total-from gs 4 (omega arith) in
+    let f = total-from gs 5 (omega arith) in
+    let h = total-from gs 6 (omega arith) in
+    omega arith

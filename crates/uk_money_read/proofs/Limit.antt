@@ -13,7 +13,7 @@ use Rattle.figures.specs.Groups.{total, Groups}
 use Rattle.figures.specs.Money.{moneyLimit}
 use Rattle.figures.proofs.Laws.Groups.{group-lt}
 use Rattle.groups.specs.Highest.{Highest}
-use Rattle.groups.proofs.Highest.{total-from, total-none, none-total}
+use Rattle.groups.proofs.Highest.{total-seven, total-none, none-total}
 
 -- a test that agrees with one of the limit
 by-less : (a b n l : ℕ) → (a < b → n ≤ l) → (b ≤ a → l < n) → ltb a b ≡ leb n l
@@ -40,15 +40,7 @@ module _ (gs : List ℕ) (z : length gs ≡ 22) (g : Groups gs) (n : ℕ) (t : H
   nine-lt i h = omega (arith, group-lt gs i g (omega arith), group-lt gs (i + 1) g (omega arith), group-lt gs (i + 2) g (omega arith))
 
   parts : total gs ≡ nineAt 0 + 1000000000 * nineAt 3 + 1000000000000000000 * (getD gs 6 0 + 1000 * total (drop 7 gs))
-  parts =
-      let a = total-from gs 0 (omega arith) in
-      let b = total-from gs 1 (omega arith) in
-      let c = total-from gs 2 (omega arith) in
-      let d = total-from gs 3 (omega arith) in
-      let e = total-from gs 4 (omega arith) in
-      let f = total-from gs 5 (omega arith) in
-      let h = total-from gs 6 (omega arith) in
-      omega arith
+  parts = omega (arith, total-seven gs (omega arith))
 
   pub above : 7 < n → false ≡ leb (total gs) moneyLimit
   above h =

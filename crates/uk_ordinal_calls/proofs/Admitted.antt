@@ -1,4 +1,4 @@
--- What a refusal of 0 tells of a text; a number's groups; early years.
+-- What a refusal of 0 tells of a text; early years.
 -- Assumes nothing.
 use Prim.Native.Nat.{ℕ, zero, suc, _^_, _≤_, _<_}
 use mathlib.Core.Path.{_≡_, refl, sym, ap, _∙_}
@@ -6,11 +6,10 @@ use mathlib.Core.Bool.{Bool, true, false}
 use mathlib.Core.List.{List, _∷_, _++_}
 use native.Mathlib.Omega.{arith}
 use native.Mathlib.Nat.{lt-of-le-of-lt}
-use native.Mathlib.Decide.{decLt}
 use borrow.Author.Tests.{lt-leb}
 use lib.Dec.{lit<}
 use lib.IntN.{ℤ, pos, negsuc, natAbs}
-use lib.ListN.{length, getD, List·getD-eq-default}
+use lib.ListN.{length}
 use lib.Signed.{leZ}
 use mir.Syntax.{w64}
 use mir.Val.{SFits, toZ, ofZ}
@@ -19,15 +18,14 @@ use Rattle.base.specs.Join.{joined}
 use Rattle.settings.specs.Settings.{masculine, inGender, within}
 use Rattle.settings.specs.declared.Settings.{Settings}
 use Rattle.figures.specs.Text.{digits, plain, value, wellFormed, negative, unsigned}
-use Rattle.figures.specs.Groups.{groupsOf, total, Groups}
+use Rattle.figures.specs.Groups.{groupsOf, total}
 use Rattle.figures.specs.Refusals.{ordinalRefusals, digitOrdinalLimit, digitOrdinalRefusals, Admitted}
 use Rattle.figures.proofs.Laws.Plain.{plain-digits, plain-some}
 use Rattle.figures.proofs.Laws.Sign.{unsigned-plain, formed-unsigned, plain-size}
-use Rattle.figures.proofs.Laws.Groups.{group-lt, total-groups}
+use Rattle.figures.proofs.Laws.Groups.{total-groups}
 use Rattle.figures.proofs.Laws.Refusals.{passed}
 use Rattle.uk_ordinal.specs.Ordinal.{ordinalWords}
 use Rattle.uk_ordinal.specs.Year.{early, eraWords, yearNoun, yearWords}
-use Rattle.uk_ordinal_plan.specs.Groups.{Groups22}
 
 -- a text without a sign
 plain-text : (xs : List ℕ) → wellFormed xs ≡ true → negative xs ≡ false → plain xs ≡ true
@@ -44,14 +42,6 @@ digit-ordinal-digits xs e =
     let p = plain-text xs (a .formed) (a .sign) in
     let w : value xs ≤ digitOrdinalLimit = rw (unsigned-plain xs (a .sign)) at (a .within) in
     (plain-digits xs p, plain-some xs p, plain-size xs 39 p (omega arith) (lt-of-le-of-lt w (lit< tt)))
-
--- groups as the planners take them
-pub groups-22 : (gs : List ℕ) → length gs ≡ 22 → Groups gs → Groups22 gs
-groups-22 gs l g = record { count = l; below = λ i. go i (decLt i (length gs)) }
-  where
-    go : (i : ℕ) → Dec (i < length gs) → getD gs i 0 < 1000
-    go i (yes h) = group-lt gs i g h
-    go i (no h) = rw (List·getD-eq-default gs 0 {n = i} (omega arith)) (omega arith)
 
 -- the code's test of a year
 at-most-0 : (y : ℤ) → leZ y (pos 0) ≡ early y

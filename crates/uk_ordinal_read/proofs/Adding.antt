@@ -26,8 +26,8 @@ use Rattle.uk_ordinal_read.specs.Guess.{added, stemOf, ordinalGroups}
 use Rattle.uk_ordinal_read.proofs.Counting.{Means}
 
 -- 22 groups, as the planners take them
-pub groups-22 : (gs : List ℕ) → Groups gs → length gs ≡ 22 → Groups22 gs
-groups-22 gs g l = record { count = l; below = λ i. go i (decLt i (length gs)) }
+pub groups-22 : (gs : List ℕ) → length gs ≡ 22 → Groups gs → Groups22 gs
+groups-22 gs l g = record { count = l; below = λ i. go i (decLt i (length gs)) }
   where
     go : (i : ℕ) → Dec (i < length gs) → getD gs i 0 < 1000
     go i (yes h) = group-lt gs i g h

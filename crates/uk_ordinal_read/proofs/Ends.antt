@@ -52,10 +52,10 @@ last-after s (suc i) h l e n =
     (r .0, rw q (r .1), l)
 
 -- a text without a space is its last word
-all : (s : List ℕ) → spaced s ≡ false → (s ≡ lastWord s) × ([] ≡ beforeLast s)
+pub all-last : (s : List ℕ) → spaced s ≡ false → (s ≡ lastWord s) × ([] ≡ beforeLast s)
 unfolding lastWord beforeLast
-all [] n = (refl, refl)
-all (b ∷ s) n = go (eqb b 32) (spaced s) refl refl n
+all-last [] n = (refl, refl)
+all-last (b ∷ s) n = go (eqb b 32) (spaced s) refl refl n
   where
     go : (t u : Bool) → eqb b 32 ≡ t → spaced s ≡ u → (t || u) ≡ false → (b ∷ s ≡ lastWord (b ∷ s)) × ([] ≡ beforeLast (b ∷ s))
     go true u e f q = clash q
@@ -63,7 +63,7 @@ all (b ∷ s) n = go (eqb b 32) (spaced s) refl refl n
     go false false e f q = (rw (f, e) refl, rw f refl)
 
 pub last-all : (s : List ℕ) (at : ℕ) → at ≤ 0 → spaced (drop at s) ≡ false → (s ≡ lastWord s) × ([] ≡ beforeLast s) × (0 ≤ length s)
-last-all s zero h n = let r = all s n in (r .0, r .1, omega arith)
+last-all s zero h n = let r = all-last s n in (r .0, r .1, omega arith)
 last-all s (suc at) h n = absurd (omega arith)
 
 -- a part of no bytes

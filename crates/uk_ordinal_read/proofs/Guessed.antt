@@ -13,7 +13,7 @@ use lib.Seq.{getD-append-add}
 use Rattle.base.specs.Join.{Word, spacedBy, joined}
 use Rattle.base.specs.Signs.{space, point}
 use Rattle.base.specs.Utf8.{utf8, form2}
-use Rattle.tables.proofs.Tests.{clash, all, all-at}
+use Rattle.tables.proofs.Tests.{all, all-at}
 use Rattle.settings.specs.Settings.{masculine, ukrainianRanges, Within, inGender}
 use Rattle.settings.specs.declared.Settings.{Settings}
 use Rattle.figures.specs.Groups.{total, Groups}
@@ -32,6 +32,7 @@ use Rattle.uk_ordinal.specs.Year.{eraWords, yearNoun}
 use Rattle.uk_ordinal_read.specs.LastWord.{spaced, lastWord, beforeLast, without, stemOrder, stemValue}
 use Rattle.uk_ordinal_read.specs.Guess.{added, stemOf, ordinalGroups, ordinalNumber, seemsEarly, yearOrdinal}
 use Rattle.uk_ordinal_read.proofs.Stems.{without-end}
+use Rattle.uk_ordinal_read.proofs.Ends.{all-last}
 use Rattle.uk_ordinal_read.proofs.Parts.{Parts, ordinal-parts}
 
 -- the last word of a text, and what stands before it
@@ -48,15 +49,6 @@ unfolding lastWord beforeLast
 last-behind [] w e = (rw e refl, rw e refl)
 last-behind (b ∷ x) w e = let p = last-behind x w e in (rw (spaced-more x w) (p .0), rw (spaced-more x w, p .1) refl)
 
-last-alone : (w : List ℕ) → spaced w ≡ false → (lastWord w ≡ w) × (beforeLast w ≡ [])
-unfolding lastWord beforeLast
-last-alone [] e = (refl, refl)
-last-alone (b ∷ w) e = let p = neither (eqb b space) (spaced w) e in (rw (p .1, p .0) refl, rw (p .1) refl)
-  where
-    neither : (a b : Bool) → (a || b) ≡ false → (a ≡ false) × (b ≡ false)
-    neither true b e = clash e
-    neither false b e = (refl, e)
-
 -- words joined, and one more
 spaced-by-more : (us vs : List Word) → spacedBy space (us ++ vs) ≡ spacedBy space us ++ spacedBy space vs
 spaced-by-more [] vs = refl
@@ -66,7 +58,7 @@ pub joined-more : (u : Word) (us vs : List Word) → joined ((u ∷ us) ++ vs) �
 joined-more u us vs = ap (λ (l : List ℕ). u ++ l) (spaced-by-more us vs) ∙ sym (append-assoc u (spacedBy space us) (spacedBy space vs))
 
 last-joined : (ws : List Word) (w : Word) → spaced w ≡ false → (lastWord (joined (ws ++ (w ∷ []))) ≡ w) × (beforeLast (joined (ws ++ (w ∷ []))) ≡ joined ws)
-last-joined [] w e = rw (append-nil w) (last-alone w e)
+last-joined [] w e = let p = all-last w e in rw (append-nil w) (sym (p .0), sym (p .1))
 last-joined (u ∷ us) w e = rw (joined-more u us (w ∷ []), append-nil w) (last-behind (joined (u ∷ us)) w e)
 
 -- groups of which one has so many more

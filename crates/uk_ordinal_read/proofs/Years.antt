@@ -21,7 +21,7 @@ use Rattle.figures.specs.Groups.{total, Groups}
 use Rattle.figures.specs.Year.{yearLimit}
 use Rattle.figures.proofs.Laws.Groups.{group-lt}
 use Rattle.groups.specs.Highest.{ZeroFrom, Highest}
-use Rattle.groups.proofs.Highest.{total-from, total-none, none-total}
+use Rattle.groups.proofs.Highest.{total-seven, total-none, none-total}
 use Rattle.uk_ordinal.specs.Year.{yearNoun, eraWords}
 use Rattle.uk_ordinal_read.specs.Guess.{seemsEarly, yearOrdinal}
 use Rattle.uk_ordinal_read.specs.Promise.{isYear}
@@ -75,15 +75,7 @@ module _ (gs : List ℕ) (g : Groups gs) (z : length gs ≡ 22) where
       (((((getD gs 6 0 * 1000 + getD gs 5 0) * 1000 + getD gs 4 0) * 1000 + getD gs 3 0) * 1000 + getD gs 2 0) * 1000 + getD gs 1 0) * 1000 + getD gs 0 0
 
   parts : total gs ≡ lowest + 1000000000000000000000 * total (drop 7 gs)
-  parts =
-      let a = total-from gs 0 (omega arith) in
-      let b = total-from gs 1 (omega arith) in
-      let c = total-from gs 2 (omega arith) in
-      let d = total-from gs 3 (omega arith) in
-      let e = total-from gs 4 (omega arith) in
-      let f = total-from gs 5 (omega arith) in
-      let h = total-from gs 6 (omega arith) in
-      omega arith
+  parts = omega (arith, total-seven gs (omega arith))
 
   pub seven : ZeroFrom gs 7 → lowest ≡ total gs
   seven t = omega (arith, parts, total-none (drop 7 gs) (λ i l. getD-drop 7 gs i 0 ∙ t (7 + i) (omega arith)))

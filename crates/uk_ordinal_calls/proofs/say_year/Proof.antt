@@ -12,7 +12,8 @@ use Rattle.figures.specs.Groups.{groupsOf}
 use Rattle.figures.proofs.Laws.Groups.{groups-length, groups-below}
 use Rattle.uk_ordinal.specs.Year.{early}
 use Rattle.base.proofs.Replies.{heard}
-use Rattle.uk_ordinal_calls.proofs.Admitted.{groups-22, year-said}
+use Rattle.uk_ordinal_read.proofs.Adding.{groups-22}
+use Rattle.uk_ordinal_calls.proofs.Admitted.{year-said}
 use Rattle.uk_ordinal_calls.proofs.say_year.Statement.{statement}
 use Rattle.uk_ordinal_calls.proofs.say_year.Tie as tie
 

@@ -12,7 +12,8 @@ use Rattle.base.specs.Measure.{measureOf}
 use Rattle.figures.specs.Groups.{groupsOf}
 use Rattle.figures.proofs.Laws.Groups.{groups-length, groups-below}
 use Rattle.uk_ordinal.specs.Year.{early}
-use Rattle.uk_ordinal_calls.proofs.Admitted.{groups-22, year-said}
+use Rattle.uk_ordinal_read.proofs.Adding.{groups-22}
+use Rattle.uk_ordinal_calls.proofs.Admitted.{year-said}
 use Rattle.uk_ordinal_calls.proofs.year_measure.Statement.{statement}
 use Rattle.uk_ordinal_calls.proofs.year_measure.Tie as tie
 

@@ -17,7 +17,7 @@ is-phrase-spec =
     tie.close
     (tie.spec
     (λ c. search needs)
-    (λ c κs. let a = c .before .before in (a .pre .0, groups-22 (a .args .gs .now) (a .pre .1) (a .pre .2), a .pre .3, omega arith))
+    (λ c κs. let a = c .before .before in (a .pre .0, groups-22 (a .args .gs .now) (a .pre .2) (a .pre .1), a .pre .3, omega arith))
     (λ c. search needs)
     (λ c. let p = c .before .before .plan-year in sym (length-take-le (p .result) (p .last .1 .1 .1 .1 .0) (omega (arith, p .ensures .0, p .kept .1 .1 .1 .1 .0))))
     (λ c κs. search needs)

@@ -18,7 +18,7 @@ use Rattle.uk_ordinal_read.proofs.read_ordinal.Tie as tie
 plan-ordinal-requires : tie.Need-plan-ordinal-requires
 plan-ordinal-requires c κs =
     let g = c .before .before .guess in
-    (c .before .before .before .before .before .pre .0, groups-22 (g .last .1 .1 .0) (g .ensures .0 .1) (g .ensures .0 .2), g .ensures .1 .0, omega arith)
+    (c .before .before .before .before .before .pre .0, groups-22 (g .last .1 .1 .0) (g .ensures .0 .2) (g .ensures .0 .1), g .ensures .1 .0, omega arith)
 
 slice-aggregate-stands : tie.Need-slice-aggregate-stands
 slice-aggregate-stands c =
