@@ -203,7 +203,7 @@ unfolding hundreds? tens? teens? units? digits hundred? short? word? tells? lead
 passes = (refl, refl, refl, refl)
 
 -- words run together before the rest of a compound: their count, and what is left
-record Taken (k value : ℕ) (x : Word) (result : ℕ) (rest : Word) : Type 0 where
+record CountRun (k value : ℕ) (x : Word) (result : ℕ) (rest : Word) : Type 0 where
   pub counts : Counts k value (x ++ rest) result rest
   pub follows : Follows (x ++ rest)
   pub unspaced : spaced x ≡ false
@@ -219,11 +219,11 @@ module _ (S : Settings) (w : Within (ukrainianRanges S)) (isSchool : school S �
   sign : a < 3
   sign = w .1 .1 .1 .0
 
-  nothing : (k value : ℕ) → Taken k value [] value rest
+  nothing : (k value : ℕ) → CountRun k value [] value rest
   nothing k value = record { counts = none k value rest end; follows = f; unspaced = refl }
 
   -- a word, and what follows it
-  more : (k value v result : ℕ) (x y : Word) → CountWord x v → 0 < v → value + v < 1000 → Taken k (value + v) y result rest → Taken (suc k) value (x ++ y) result rest
+  more : (k value v result : ℕ) (x y : Word) → CountWord x v → 0 < v → value + v < 1000 → CountRun k (value + v) y result rest → CountRun (suc k) value (x ++ y) result rest
   more k value v result x y c p l t = record {
     counts = rw (append-assoc x y rest) (word-more k value v x (y ++ rest) c (t .follows) p l (t .counts));
     follows = rw (append-assoc x y rest) (follows-after x (y ++ rest) (c .begins) (t .follows));
@@ -251,12 +251,12 @@ module _ (S : Settings) (w : Within (ukrainianRanges S)) (isSchool : school S �
   hundred-is h = rw isSchool refl
 
   -- units, if any; tens and units; and hundreds
-  unit-taken : (k value u : ℕ) → u < 10 → value + u < 1000 → Taken (suc k) value (flatten (opt (D .unit) u)) (value + u) rest
+  unit-taken : (k value u : ℕ) → u < 10 → value + u < 1000 → CountRun (suc k) value (flatten (opt (D .unit) u)) (value + u) rest
   unfolding flatten
   unit-taken k value zero l h = let e : value + 0 ≡ value = omega arith in rw e (nothing (suc k) value)
   unit-taken k value (suc u) l h = more k value (suc u) (value + suc u) (D .unit (suc u)) [] (unit-word (suc u) (omega arith) l) (omega arith) h (nothing k (value + suc u))
 
-  low-taken : (k value t u : ℕ) → t < 10 → u < 10 → value + 10 * t + u < 1000 → Taken (suc (suc k)) value (flatten (lowWords D t u)) (value + 10 * t + u) rest
+  low-taken : (k value t u : ℕ) → t < 10 → u < 10 → value + 10 * t + u < 1000 → CountRun (suc (suc k)) value (flatten (lowWords D t u)) (value + 10 * t + u) rest
   unfolding flatten
   low-taken k value zero u l m h = let e : value + 10 * 0 + u ≡ value + u = omega arith in rw e (unit-taken (suc k) value u m (omega arith))
   low-taken k value (suc zero) u l m h =
@@ -266,7 +266,7 @@ module _ (S : Settings) (w : Within (ukrainianRanges S)) (isSchool : school S �
       more (suc k) value (10 * suc (suc t)) (value + 10 * suc (suc t) + u) (D .ten (suc (suc t))) (flatten (opt (D .unit) u)) (ten-word (suc (suc t)) (omega arith) l) (omega arith) (omega arith)
       (unit-taken k (value + 10 * suc (suc t)) u m h)
 
-  first-hundred : (y : Word) (result : ℕ) → Taken 3 100 y result rest → Taken 4 0 (D .hundred 1 ++ y) result rest
+  first-hundred : (y : Word) (result : ℕ) → CountRun 3 100 y result rest → CountRun 4 0 (D .hundred 1 ++ y) result rest
   unfolding hundreds?
   first-hundred y result t =
       let x = digits a .hundred 1 in
@@ -279,7 +279,7 @@ module _ (S : Settings) (w : Within (ukrainianRanges S)) (isSchool : school S �
         unspaced = spaced-append x y (not-true (spaced x) (q .0)) (t .unspaced);
       })
 
-  other-hundred : (h : ℕ) (y : Word) (result : ℕ) → 1 < h → h < 10 → Taken 2 (100 * h) y result rest → Taken 4 0 (D .hundred h ++ y) result rest
+  other-hundred : (h : ℕ) (y : Word) (result : ℕ) → 1 < h → h < 10 → CountRun 2 (100 * h) y result rest → CountRun 4 0 (D .hundred h ++ y) result rest
   unfolding hundreds?
   other-hundred h y result m l t =
       let x = digits a .hundred h in
@@ -293,7 +293,7 @@ module _ (S : Settings) (w : Within (ukrainianRanges S)) (isSchool : school S �
         unspaced = spaced-append x y (c .unspaced) (t .unspaced);
       })
 
-  num-taken : (h t u : ℕ) → h < 10 → t < 10 → u < 10 → Taken 4 0 (flatten (numWords D h t u)) (100 * h + 10 * t + u) rest
+  num-taken : (h t u : ℕ) → h < 10 → t < 10 → u < 10 → CountRun 4 0 (flatten (numWords D h t u)) (100 * h + 10 * t + u) rest
   unfolding flatten
   num-taken zero t u l m n = let e : 100 * 0 + 10 * t + u ≡ 0 + 10 * t + u = omega arith in rw e (low-taken 2 0 t u m n (omega arith))
   num-taken (suc zero) t u l m n = first-hundred (flatten (lowWords D t u)) (100 + 10 * t + u) (low-taken 1 100 t u m n (omega arith))

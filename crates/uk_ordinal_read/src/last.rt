@@ -17,7 +17,7 @@ const COUNT_WORDS: usize = 4;
 const HUNDREDS: u32 = 1000;
 
 // What the count words at the front of a stem count, and where they end.
-struct Counted {
+struct CountRead {
     value: u16,
     next: usize,
 }
@@ -40,7 +40,7 @@ fn grown(value: u16, more: u32) -> u16
 }
 
 // The count at the front of a stem.
-fn count(s: &[u8]) -> Counted
+fn count(s: &[u8]) -> CountRead
     ensures { λ r. ⌜ (r .value ≡ counted 4 0 (now (s .entry))) × (r .value < 1000) ⌝ }
     ensures { λ r. ⌜ (drop (r .next) (now (s .entry)) ≡ uncounted 4 (now (s .entry))) × (r .next ≤ length (now (s .entry))) ⌝ }
 {
@@ -50,13 +50,13 @@ fn count(s: &[u8]) -> Counted
     while 0 < left {
         let c = uk_counts::count(&s[at..]);
         if c == 0 {
-            return Counted { value, next: at };
+            return CountRead { value, next: at };
         }
         value = grown(value, c / SIZES);
         at += (c % SIZES) as usize;
         left -= 1;
     }
-    Counted { value, next: at }
+    CountRead { value, next: at }
 }
 
 // A compound: a scale without a count is one.
