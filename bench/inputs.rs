@@ -1,8 +1,9 @@
 //! The fixed inputs, every setting of the Rust and every currency in turn: the spread of 1, 2, 6
-//! and the most groups, and what instruments, scales and tills say every day.
+//! and the most groups, and what instruments, scales and tills say every day. Ordinals and years
+//! are read in school's style, beside their spelling in the same; else all is as the Rust has it.
 
 use crate::expect;
-use crate::kinds::{Kind, Manner, CODES};
+use crate::kinds::{Kind, Manner, Task, CODES};
 use crate::random::Random;
 
 /// Five turns of the 36 Ukrainian settings that the Rust has, fifteen of the 12 French ones.
@@ -27,6 +28,8 @@ pub enum Figures {
     Prices,
     /// From 1900 to 2100.
     Years,
+    /// One to 999 thousand: an ordinal of one word.
+    Thousands,
 }
 
 /// All figures that a kind is measured on: the spread first.
@@ -43,9 +46,12 @@ fn everyday(kind: Kind) -> &'static [Figures] {
             Figures::Digits("hertz", 4, 9),
         ],
         Kind::UkMoney => &[Figures::Prices],
-        Kind::UkOrdinal | Kind::UkDigitOrdinal | Kind::FrOrdinal => {
-            &[Figures::Digits("ordinals", 1, 3)]
-        }
+        Kind::UkOrdinal => &[
+            Figures::Digits("ordinals", 1, 3),
+            Figures::Digits("ordinals", 1, 9),
+            Figures::Thousands,
+        ],
+        Kind::UkDigitOrdinal | Kind::FrOrdinal => &[Figures::Digits("ordinals", 1, 3)],
         Kind::UkYear => &[Figures::Years],
     }
 }
@@ -58,6 +64,7 @@ impl Figures {
             Figures::Digits(what, fewest, most) => format!("{what} of {fewest} to {most} digits"),
             Figures::Prices => "prices with hundredths".to_string(),
             Figures::Years => "years from 1900 to 2100".to_string(),
+            Figures::Thousands => "round thousands to 999000".to_string(),
         }
     }
 
@@ -72,6 +79,7 @@ impl Figures {
             Figures::Digits(_, fewest, most) => (1000 + 10 * fewest + most) as u64,
             Figures::Prices => 2000,
             Figures::Years => 3000,
+            Figures::Thousands => 4000,
         }
     }
 
@@ -81,20 +89,28 @@ impl Figures {
             Figures::Digits(_, fewest, most) => figure(fewest, most, random).to_string(),
             Figures::Prices => format!("{}.{:02}", figure(1, 5, random), 1 + random.below(99)),
             Figures::Years => (1900 + random.below(201)).to_string(),
+            Figures::Thousands => format!("{}000", 1 + random.below(999)),
         }
     }
 }
 
-pub fn inputs(kind: Kind, figures: Figures) -> Vec<Input> {
+pub fn inputs(kind: Kind, task: Task, figures: Figures) -> Vec<Input> {
     let mut random = Random::new(figures.seed());
-    (0..COUNT).map(|turn| input(kind, figures, turn, &mut random)).collect()
+    (0..COUNT).map(|turn| input(manner(kind, task, turn), figures, turn, &mut random)).collect()
 }
 
-fn input(kind: Kind, figures: Figures, turn: usize, random: &mut Random) -> Input {
+fn manner(kind: Kind, task: Task, turn: usize) -> Manner<'static> {
     let all = kind.ported_settings();
-    let settings = all[turn % all.len()];
     let code = if kind == Kind::UkMoney { CODES[turn % CODES.len()] } else { "" };
-    let manner = Manner::new(kind, settings, code);
+    let manner = Manner::new(kind, all[turn % all.len()], code);
+    match task {
+        Task::Reading => manner.in_school(),
+        _ => manner,
+    }
+}
+
+fn input(manner: Manner<'static>, figures: Figures, turn: usize, random: &mut Random) -> Input {
+    let kind = manner.kind;
     let text = loop {
         let text = figures.text(kind, turn, random).into_bytes();
         // With the most groups, a random text may be above the limit.

@@ -1,7 +1,8 @@
 //! Measures each call of the library on fixed inputs: a spread of lengths, and everyday figures.
 //!
-//! `bench count` answers every input once with the library and with plain C, each in its own run of
-//! `bench_pass`, for callgrind to count. `bench table [COUNTS]` takes the times and prints both.
+//! `bench count` answers every input once with the library, and once with what it is compared with:
+//! plain C where it spells, else its spelling call. Each has its own run of `bench_pass`, for
+//! callgrind to count. `bench table [COUNTS]` takes the times and prints both.
 
 // The benchmark shares these with the comparing program, which uses more of them.
 #[allow(dead_code)]
@@ -13,6 +14,9 @@ mod kinds;
 #[allow(dead_code)]
 #[path = "../compare/random.rs"]
 mod random;
+#[allow(dead_code)]
+#[path = "../compare/school.rs"]
+mod school;
 
 mod inputs;
 mod subjects;
@@ -69,7 +73,8 @@ fn cases() -> Vec<Case> {
                 continue;
             }
             for figures in inputs::figures(kind) {
-                let case = Case { kind, task, figures, inputs: inputs::inputs(kind, figures) };
+                let inputs = inputs::inputs(kind, task, figures);
+                let case = Case { kind, task, figures, inputs };
                 check(&case);
                 cases.push(case);
             }
@@ -86,20 +91,25 @@ pub fn library(kind: Kind, task: Task) -> Option<Subject> {
     }
 }
 
-/// The library's call, and plain C's where it is spelled.
-fn subjects_of(case: &Case) -> impl Iterator<Item = Subject> {
-    let plain = (case.task == Task::Spelling).then(|| subjects::plain(case.kind));
-    library(case.kind, case.task).into_iter().chain(plain)
+/// The library's call, and what it is compared with: plain C's where it spells, else the library's
+/// spelling call.
+fn subjects_of(case: &Case) -> [(Task, Subject); 2] {
+    let ours = library(case.kind, case.task).expect("a case has a call");
+    let other = match case.task {
+        Task::Spelling => subjects::plain(case.kind),
+        _ => subjects::spelling(case.kind),
+    };
+    [(case.task, ours), (Task::Spelling, other)]
 }
 
 /// What is timed must be right: the library and plain C give the Rust's phrase, its text or its
 /// length.
 fn check(case: &Case) {
     let Room(out) = &mut Room::new();
-    for subject in subjects_of(case) {
+    for (task, subject) in subjects_of(case) {
         for input in &case.inputs {
             let length = subject(input, out);
-            let right = match case.task {
+            let right = match task {
                 Task::Spelling => out[..length] == input.phrase[..],
                 Task::Measuring => length == input.phrase.len(),
                 Task::Reading => out[..length] == input.text[..],
@@ -116,10 +126,10 @@ pub fn bench_pass(inputs: &[Input], subject: &Subject, out: &mut [u8]) -> usize 
     inputs.iter().map(|input| subject(input, out)).sum()
 }
 
-/// The passes that callgrind counts, in this order: the library, and plain C where it spells.
+/// The passes that callgrind counts, in this order: the library, and what it is compared with.
 fn count(case: &Case) {
     let Room(out) = &mut Room::new();
-    for subject in subjects_of(case) {
+    for (_, subject) in subjects_of(case) {
         std::hint::black_box(bench_pass(&case.inputs, &subject, out));
     }
 }

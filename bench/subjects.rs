@@ -39,7 +39,7 @@ impl Measure {
 /// Declares a C call and a function that makes a subject of it: its settings, its name, then the
 /// arguments between the settings and the buffer.
 macro_rules! c_call {
-    (four, $($call:tt)*) => { c_call!((a, b, c, d), $($call)*); };
+    (five, $($call:tt)*) => { c_call!((a, b, c, d, e), $($call)*); };
     (three, $($call:tt)*) => { c_call!((a, b, c), $($call)*); };
     (($($n:ident),*), $name:ident, $input:ident, ($($type:ty),*), ($($argument:expr),*)) => {
         fn $name() -> Subject {
@@ -56,7 +56,7 @@ macro_rules! c_call {
 
 /// The same of a measuring call, which is lent no buffer.
 macro_rules! measure_call {
-    (four, $($call:tt)*) => { measure_call!((a, b, c, d), $($call)*); };
+    (five, $($call:tt)*) => { measure_call!((a, b, c, d, e), $($call)*); };
     (three, $($call:tt)*) => { measure_call!((a, b, c), $($call)*); };
     (($($n:ident),*), $name:ident, $input:ident, ($($type:ty),*), ($($argument:expr),*)) => {
         fn $name() -> Subject {
@@ -112,22 +112,24 @@ macro_rules! on_year {
     };
 }
 
-on_text!(four, yokepear_uk_to_cardinal, text);
-on_text!(four, yokepear_uk_from_cardinal, phrase);
+on_text!(five, yokepear_uk_to_cardinal, text);
+on_text!(five, yokepear_uk_from_cardinal, phrase);
 on_text!(three, yokepear_fr_to_cardinal, text);
 on_text!(three, yokepear_fr_from_cardinal, phrase);
 on_text!(three, yokepear_fr_to_ordinal, text);
 on_text!(three, yokepear_fr_from_ordinal, phrase);
-on_money!(four, yokepear_uk_to_currency, text);
-on_money!(four, yokepear_uk_from_currency, phrase);
-on_text!(four, yokepear_uk_to_ordinal, text);
-on_text!(four, yokepear_uk_to_ordinal_num, text);
-on_year!(four, yokepear_uk_to_year, c_call);
-on_text!(four, yokepear_uk_measure_cardinal, text, measure_call);
-on_money!(four, yokepear_uk_measure_currency, text, measure_call);
-on_text!(four, yokepear_uk_measure_ordinal, text, measure_call);
-on_text!(four, yokepear_uk_measure_ordinal_num, text, measure_call);
-on_year!(four, yokepear_uk_measure_year, measure_call);
+on_money!(five, yokepear_uk_to_currency, text);
+on_money!(five, yokepear_uk_from_currency, phrase);
+on_text!(five, yokepear_uk_to_ordinal, text);
+on_text!(five, yokepear_uk_from_ordinal, phrase);
+on_text!(five, yokepear_uk_to_ordinal_num, text);
+on_year!(five, yokepear_uk_to_year, c_call);
+on_text!(five, yokepear_uk_from_year, phrase);
+on_text!(five, yokepear_uk_measure_cardinal, text, measure_call);
+on_money!(five, yokepear_uk_measure_currency, text, measure_call);
+on_text!(five, yokepear_uk_measure_ordinal, text, measure_call);
+on_text!(five, yokepear_uk_measure_ordinal_num, text, measure_call);
+on_year!(five, yokepear_uk_measure_year, measure_call);
 on_text!(three, yokepear_fr_measure_cardinal, text, measure_call);
 on_text!(three, yokepear_fr_measure_ordinal, text, measure_call);
 on_text!(three, plain_uk_to_cardinal, text);
@@ -169,9 +171,11 @@ pub fn reading(kind: Kind) -> Option<Subject> {
     Some(match kind {
         Kind::UkCardinal => yokepear_uk_from_cardinal(),
         Kind::UkMoney => yokepear_uk_from_currency(),
+        Kind::UkOrdinal => yokepear_uk_from_ordinal(),
+        Kind::UkYear => yokepear_uk_from_year(),
         Kind::FrCardinal => yokepear_fr_from_cardinal(),
         Kind::FrOrdinal => yokepear_fr_from_ordinal(),
-        _ => return None,
+        Kind::UkDigitOrdinal => return None,
     })
 }
 

@@ -11,11 +11,12 @@ struct Measured {
     bytes: f64,
     times: Times,
     our_instructions: f64,
-    plain_instructions: f64,
+    /// Plain C's where a case spells, else those of the spelling call.
+    other_instructions: f64,
 }
 
 /// Bytes and nanoseconds are those of a phrase.
-const HEADINGS: [&str; 10] = [
+const HEADINGS: [&str; 11] = [
     "call",
     "figures",
     "bytes",
@@ -26,11 +27,15 @@ const HEADINGS: [&str; 10] = [
     "ours / spelling",
     "instructions per byte",
     "plain C's",
+    "spelling's",
 ];
+
+/// How many passes callgrind counts for a case.
+const PASSES: usize = 2;
 
 /// The counts are callgrind's, in the order of the passes; without them, columns stay empty.
 pub fn print(cases: &[Case], counts: &[u64]) {
-    let passes: usize = cases.iter().map(passes).sum();
+    let passes = PASSES * cases.len();
     assert!(counts.is_empty() || counts.len() == passes, "{} counts for {passes}", counts.len());
     println!("| {} |", HEADINGS.join(" | "));
     println!("|{}", "---|".repeat(HEADINGS.len()));
@@ -51,29 +56,19 @@ pub fn print(cases: &[Case], counts: &[u64]) {
     }
 }
 
-/// How many passes callgrind counts for a case.
-fn passes(case: &Case) -> usize {
-    if case.task == Task::Spelling {
-        2
-    } else {
-        1
-    }
-}
-
 fn same_call(a: &Case, b: &Case) -> bool {
     (a.kind, a.task) == (b.kind, b.task)
 }
 
 fn measured(case: &Case, times: Times, counts: &mut impl Iterator<Item = f64>) -> Measured {
     let our_instructions = counts.next().unwrap_or(0.0);
-    let plain = if case.task == Task::Spelling { counts.next() } else { None };
-    let plain_instructions = plain.unwrap_or(0.0);
+    let other_instructions = counts.next().unwrap_or(0.0);
     Measured {
         phrases: case.inputs.len() as f64,
         bytes: case.inputs.iter().map(|input| input.phrase.len() as f64).sum(),
         times,
         our_instructions,
-        plain_instructions,
+        other_instructions,
     }
 }
 
@@ -90,7 +85,7 @@ fn add(a: Measured, b: Measured) -> Measured {
         bytes: a.bytes + b.bytes,
         times,
         our_instructions: a.our_instructions + b.our_instructions,
-        plain_instructions: a.plain_instructions + b.plain_instructions,
+        other_instructions: a.other_instructions + b.other_instructions,
     }
 }
 
@@ -106,6 +101,11 @@ fn ratio(a: f64, b: f64) -> String {
 fn line(case: &Case, figures: &str, m: &Measured) {
     let times = &m.times;
     let call = case.kind.call(case.task).expect("a case has a call");
+    let other = ratio(m.other_instructions, m.bytes);
+    let (plain, spelling) = match case.task {
+        Task::Spelling => (other, "-".to_string()),
+        _ => ("-".to_string(), other),
+    };
     let cells = [
         call.to_string(),
         figures.to_string(),
@@ -116,7 +116,8 @@ fn line(case: &Case, figures: &str, m: &Measured) {
         ratio(times.ours, times.copy),
         ratio(times.ours, times.spelling),
         ratio(m.our_instructions, m.bytes),
-        ratio(m.plain_instructions, m.bytes),
+        plain,
+        spelling,
     ];
     println!("| {} |", cells.join(" | "));
 }

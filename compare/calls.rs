@@ -23,7 +23,7 @@ pub struct Measure {
 macro_rules! ukrainian {
     ($(fn $name:ident($($rest:ident: $type:ty),*) -> $answer:ty;)*) => {
         extern "C" {
-            $(fn $name(a: u32, b: u32, c: u32, d: u32, $($rest: $type),*) -> $answer;)*
+            $(fn $name(a: u32, b: u32, c: u32, d: u32, e: u32, $($rest: $type),*) -> $answer;)*
         }
     };
 }
@@ -49,6 +49,8 @@ ukrainian! {
     fn yokepear_uk_to_currency(
         code: Bytes, k: usize, s: Bytes, n: usize, out: Room, room: usize) -> Answer;
     fn yokepear_uk_from_cardinal(s: Bytes, n: usize, out: Room, room: usize) -> Answer;
+    fn yokepear_uk_from_ordinal(s: Bytes, n: usize, out: Room, room: usize) -> Answer;
+    fn yokepear_uk_from_year(s: Bytes, n: usize, out: Room, room: usize) -> Answer;
     fn yokepear_uk_from_currency(
         code: Bytes, k: usize, s: Bytes, n: usize, out: Room, room: usize) -> Answer;
     fn yokepear_uk_measure_cardinal(s: Bytes, n: usize) -> Measure;
@@ -71,8 +73,8 @@ french! {
 /// Asks a Ukrainian call in a manner's settings.
 macro_rules! uk {
     ($call:ident, $manner:ident, $($argument:expr),*) => {{
-        let [a, b, c, d] = $manner.settings;
-        unsafe { $call(a, b, c, d, $($argument),*) }
+        let [a, b, c, d, e] = $manner.settings;
+        unsafe { $call(a, b, c, d, e, $($argument),*) }
     }};
 }
 
@@ -125,8 +127,10 @@ pub fn read(manner: &Manner, phrase: &[u8], out: &mut [u8]) -> Answer {
     match manner.kind {
         Kind::UkCardinal => uk!(yokepear_uk_from_cardinal, manner, s, n, out, room),
         Kind::UkMoney => uk!(yokepear_uk_from_currency, manner, code, k, s, n, out, room),
+        Kind::UkOrdinal => uk!(yokepear_uk_from_ordinal, manner, s, n, out, room),
+        Kind::UkYear => uk!(yokepear_uk_from_year, manner, s, n, out, room),
         Kind::FrCardinal => fr!(yokepear_fr_from_cardinal, manner, s, n, out, room),
         Kind::FrOrdinal => fr!(yokepear_fr_from_ordinal, manner, s, n, out, room),
-        kind => unreachable!("no call reads {}", kind.name()),
+        Kind::UkDigitOrdinal => unreachable!("no call reads digit ordinals"),
     }
 }

@@ -12,7 +12,10 @@ const UNTOUCHED: [u8; ROOM] = [0xa5; ROOM];
 /// How many answers of each sort were compared.
 #[derive(Default, Clone, Copy)]
 pub struct Counts {
+    /// As the Rust spells them, but for the sign.
     pub spelled: u64,
+    /// As reckoned from the Rust's phrases: ordinals and years in school.
+    pub schooled: u64,
     pub refused: u64,
     pub measured: u64,
     pub read_back: u64,
@@ -62,8 +65,8 @@ impl Checker {
         self.compare_spelling(manner, text, &expect::spelling(manner, text))
     }
 
-    /// The same with each sign, in a manner that has the Rust's, which is asked but once.
-    pub fn spelled_with_every_sign(
+    /// The same in all later settings, of a manner that has the Rust's, which is asked but once.
+    pub fn spelled_in_later_settings(
         &mut self,
         manner: &Manner,
         text: &[u8],
@@ -72,8 +75,8 @@ impl Checker {
             return Ok(());
         }
         let published = expect::spelling(manner, text);
-        let mut manners = manner.with_every_sign();
-        manners.try_for_each(|m| self.compare_spelling(&m, text, &published.with_sign_of(&m)))
+        let mut manners = manner.with_later_settings();
+        manners.try_for_each(|m| self.compare_spelling(&m, text, &published.in_manner(&m, text)))
     }
 
     fn compare_spelling(
@@ -91,7 +94,9 @@ impl Checker {
                 self.compare_measure(manner, text, expected)
             }
             Expected::Said(phrase) => {
-                self.counts.spelled += 1;
+                let schooled = u64::from(manner.is_school());
+                self.counts.schooled += schooled;
+                self.counts.spelled += 1 - schooled;
                 let outcome = Outcome::Bytes(phrase.as_bytes());
                 self.compare_rooms(outcome, phrase.len(), ask).map_err(fail)?;
                 self.compare_measure(manner, text, expected)?;
@@ -128,7 +133,7 @@ impl Checker {
     }
 
     fn read_back(&mut self, manner: &Manner, phrase: &[u8], text: &[u8]) -> Result<(), Difference> {
-        if !manner.kind.is_read() {
+        if !manner.is_read() {
             return Ok(());
         }
         self.counts.read_back += 1;
@@ -143,7 +148,7 @@ impl Checker {
     /// Reads any bytes: the text that is spoken so, or a refusal.
     pub fn read(&mut self, manner: &Manner, phrase: &[u8]) -> Result<(), Difference> {
         self.counts.damaged += 1;
-        let refused = expect::refusal_of_manner(manner);
+        let refused = expect::refusal_of_reading(manner);
         let text = if refused.is_none() { self.reader.reading(manner, phrase) } else { None };
         let outcome = match &text {
             Some(text) => Outcome::Bytes(text.as_bytes()),

@@ -2,7 +2,7 @@
 
 use crate::check::{Checker, Difference};
 use crate::expect;
-use crate::kinds::{all_manners, set, Kind, Manner, Settings, CODES, KINDS, SIGNS};
+use crate::kinds::{all_manners, read_manners, set, Kind, Manner, CODES, KINDS, SIGNS};
 use crate::random::Random;
 use crate::texts;
 use crate::Size;
@@ -43,7 +43,7 @@ fn spread(
     checker: &mut Checker,
     random: &mut Random,
 ) -> Vec<Spelled> {
-    let manners = all_manners(kind);
+    let manners = read_manners(kind);
     let most = most_digits.min(texts::most_digits(kind));
     let mut phrases = Vec::new();
     while phrases.len() < count {
@@ -62,11 +62,18 @@ fn spread(
 
 /// A phrase that is about as long as any of its kind.
 fn longest(kind: Kind) -> Spelled {
-    let settings = if kind.is_french() { [0; 4] } else { [0, 0, 4, 1] };
-    let manner = Manner::new(kind, settings, "ILS");
+    let settings = match kind {
+        Kind::FrCardinal | Kind::FrOrdinal => [0; 5],
+        Kind::UkOrdinal => [0, 0, 1, 1, 0],
+        Kind::UkYear => [0, 1, 4, 1, 0],
+        _ => [0, 0, 4, 1, 0],
+    };
+    let manner = Manner::new(kind, settings, "ILS").in_school();
     let text = match kind {
         Kind::UkMoney => "14989989989989989989.89".to_string(),
         Kind::UkCardinal => format!("-{}", "989".repeat(22)),
+        Kind::UkOrdinal => format!("{}4", "9".repeat(65)),
+        Kind::UkYear => "-5999999999999999994".to_string(),
         _ => "997".repeat(34),
     };
     Spelled { manner, phrase: expect::phrase(&manner, text.as_bytes()).into_bytes() }
@@ -181,16 +188,19 @@ fn signs_exchanged(spelled: &Spelled, checker: &mut Checker) -> Outcome {
     Ok(())
 }
 
-/// The phrase read in every other setting, with other codes, and as the other kinds.
+/// The phrase read in every other setting of the Rust, the later ones being taken at random, with
+/// other codes, and as the other kinds.
 fn other_manners(spelled: &Spelled, checker: &mut Checker, random: &mut Random) -> Outcome {
+    let code = std::str::from_utf8(spelled.manner.code).unwrap_or("");
+    let code = if code.is_empty() { "UAH" } else { code };
     for kind in KINDS.into_iter().filter(|kind| kind.is_read()) {
-        let settings = kind.all_settings();
-        for settings in &settings {
-            let code = std::str::from_utf8(spelled.manner.code).unwrap_or("");
-            let code = if code.is_empty() { "UAH" } else { code };
-            checker.read(&Manner::new(kind, *settings, code), &spelled.phrase)?;
+        for settings in kind.ported_settings() {
+            let all: Vec<Manner> =
+                Manner::new(kind, settings, code).with_later_settings().collect();
+            checker.read(random.pick(&all), &spelled.phrase)?;
         }
         if kind == Kind::UkMoney {
+            let settings = kind.all_settings();
             for code in CODES {
                 let manner = Manner::new(kind, *random.pick(&settings), code);
                 checker.read(&manner, &spelled.phrase)?;
@@ -222,8 +232,9 @@ fn random_phrases(
         checker.read(manner, &random_words(phrases, length, random))?;
         checker.read(manner, &[&spelled.phrase, &b" "[..]].concat().repeat(length / 16))?;
     }
-    let manner = Manner::new(kind, Settings::default(), "UAH");
-    for word in [" ", "-", "один", "un", "mille ", "тисяча "] {
+    let manner = Manner { code: b"UAH", ..read_manners(kind)[0] };
+    for word in [" ", "-", "один", "двохсот", "un", "mille ", "тисяча ", "сотий "]
+    {
         checker.read(&manner, word.repeat(LONGEST / word.len()).as_bytes())?;
     }
     checker.read(&manner, b"")
@@ -247,11 +258,11 @@ fn random_words(phrases: &[Spelled], length: usize, random: &mut Random) -> Vec<
 
 /// Settings and codes outside their range come before the phrase.
 fn refused_manners(kind: Kind, checker: &mut Checker) -> Outcome {
-    let good = Manner::new(kind, Settings::default(), "UAH");
+    let good = Manner { code: b"UAH", ..read_manners(kind)[0] };
     let phrase = expect::phrase(&good, b"42").into_bytes();
     for (at, size) in kind.setting_sizes().iter().enumerate() {
         for wrong in [*size, size + 1, 255, 256, 65536, 1 << 31, u32::MAX] {
-            let settings = set(Settings::default(), at, wrong);
+            let settings = set(good.settings, at, wrong);
             for code in ["UAH", "EURO"] {
                 checker.read(&Manner::new(kind, settings, code), &phrase)?;
                 checker.read(&Manner::new(kind, settings, code), b"?")?;
@@ -259,8 +270,18 @@ fn refused_manners(kind: Kind, checker: &mut Checker) -> Outcome {
         }
     }
     for code in ["", "uah", "UA", "UAHH", "EURO", "DOLLARS"] {
-        checker.read(&Manner::new(kind, Settings::default(), code), &phrase)?;
-        checker.read(&Manner::new(kind, Settings::default(), code), b"?")?;
+        let manner = Manner::new(kind, good.settings, code);
+        checker.read(&manner, &phrase)?;
+        checker.read(&manner, b"?")?;
+    }
+    ported_style(&good, &phrase, checker)
+}
+
+/// A style that is not read comes before the phrase too, in every setting.
+fn ported_style(good: &Manner, phrase: &[u8], checker: &mut Checker) -> Outcome {
+    for manner in all_manners(good.kind).iter().filter(|manner| !manner.is_read()) {
+        checker.read(manner, phrase)?;
+        checker.read(manner, b"?")?;
     }
     Ok(())
 }

@@ -1,6 +1,7 @@
 //! What a spelling call must answer: the rules of refusal, then the published Rust's phrase.
 
 use crate::kinds::{Kind, Manner, Settings, SIGNS};
+use crate::school;
 use reference::lang::fr::{French, RegionFrench};
 use reference::lang::uk::{Declension, Gender, GrammaticalNumber, Ukrainian};
 use reference::{BigFloat, Currency, Language};
@@ -13,11 +14,12 @@ pub enum Expected {
 }
 
 impl Expected {
-    /// The same answer in a manner that differs in the sign alone; this one has the Rust's.
-    pub fn with_sign_of(&self, manner: &Manner) -> Expected {
+    /// The answer to the same text in a manner that differs in later settings alone; this one's are
+    /// the Rust's.
+    pub fn in_manner(&self, manner: &Manner, text: &[u8]) -> Expected {
         match self {
             Expected::Refused(refusal) => Expected::Refused(*refusal),
-            Expected::Said(phrase) => Expected::Said(with_sign(phrase.clone(), manner)),
+            Expected::Said(phrase) => Expected::Said(in_manner(phrase.clone(), manner, text)),
         }
     }
 }
@@ -38,6 +40,11 @@ pub fn refusal_of_manner(manner: &Manner) -> Option<u32> {
         return Some(1);
     }
     (manner.kind == Kind::UkMoney && currency(manner.code).is_none()).then_some(2)
+}
+
+/// The same of a reading call: 1 also for the style that is not read.
+pub fn refusal_of_reading(manner: &Manner) -> Option<u32> {
+    refusal_of_manner(manner).or((!manner.is_read()).then_some(1))
 }
 
 /// 3 for a malformed text, 4 for a sign that the kind does not take, 5 for a size above its limit.
@@ -84,12 +91,18 @@ fn above(digits: &[u8], limit: &str) -> bool {
     (digits.len(), digits) > (limit.len(), limit.as_bytes())
 }
 
-/// The published Rust's phrase for an admitted text, its apostrophes replaced by the manner's sign.
+/// The published Rust's phrase for an admitted text, in the manner's style, its apostrophes
+/// replaced by the manner's sign.
 pub fn phrase(manner: &Manner, text: &[u8]) -> String {
-    with_sign(published(manner, text), manner)
+    in_manner(published(manner, text), manner, text)
 }
 
-fn with_sign(phrase: String, manner: &Manner) -> String {
+fn in_manner(published: String, manner: &Manner, text: &[u8]) -> String {
+    let phrase = match manner.kind {
+        Kind::UkOrdinal if manner.is_school() => school::ordinal(&published, text),
+        Kind::UkYear if manner.is_school() => school::year(&published, text),
+        _ => published,
+    };
     match manner.sign() {
         Some(sign) if sign != SIGNS[0] => phrase.replace(SIGNS[0], sign),
         _ => phrase,
@@ -118,7 +131,7 @@ fn currency(code: &[u8]) -> Option<Currency> {
     std::str::from_utf8(code).ok()?.parse().ok()
 }
 
-fn ukrainian([gender, number, case, _]: Settings) -> Ukrainian {
+fn ukrainian([gender, number, case, ..]: Settings) -> Ukrainian {
     let genders = [Gender::Masculine, Gender::Feminine, Gender::Neuter];
     let numbers = [GrammaticalNumber::Singular, GrammaticalNumber::Plural];
     let cases = [
@@ -132,7 +145,7 @@ fn ukrainian([gender, number, case, _]: Settings) -> Ukrainian {
     Ukrainian::new(genders[gender as usize], numbers[number as usize], cases[case as usize])
 }
 
-fn french([feminine, reformed, region, _]: Settings) -> French {
+fn french([feminine, reformed, region, ..]: Settings) -> French {
     let regions = [RegionFrench::FR, RegionFrench::BE, RegionFrench::CH];
     French::new(feminine == 1, reformed == 1, regions[region as usize])
 }

@@ -5,7 +5,9 @@
 //! taken from the Rust's own phrases.
 
 use crate::expect;
-use crate::kinds::{Kind, Manner, Settings};
+use crate::kinds::{set, Kind, Manner, Settings, SIGNS};
+use crate::school;
+use crate::stems::Stems;
 use std::collections::HashMap;
 
 /// What a word adds to a number, whatever the settings.
@@ -32,6 +34,8 @@ pub struct Reader {
     french: Dictionary,
     /// From a last word of a French ordinal to that of its cardinal.
     cardinal_words: HashMap<Vec<u8>, Vec<u8>>,
+    /// The last words of Ukrainian ordinals.
+    stems: Stems,
     /// Main and fraction nouns by code and case, each form as its words.
     nouns: HashMap<(Vec<u8>, u32), [Vec<Words>; 2]>,
 }
@@ -46,18 +50,21 @@ impl Reader {
             ([stem, "ième".as_bytes()].concat(), word.clone())
         };
         let cardinal_words = french.keys().map(ordinal).collect();
-        Reader { ukrainian: ukrainian_words(), french, cardinal_words, nouns: HashMap::new() }
+        let (ukrainian, stems) = (ukrainian_words(), Stems::new());
+        Reader { ukrainian, french, cardinal_words, stems, nouns: HashMap::new() }
     }
 
     /// The text that a reading call must give, or None where it must refuse the phrase.
-    /// The manner's settings and code must be good ones.
+    /// The manner's settings and code must be good ones, and such that there is a reading call.
     pub fn reading(&mut self, manner: &Manner, phrase: &[u8]) -> Option<String> {
         let text = match manner.kind {
             Kind::UkCardinal => number(&self.ukrainian, phrase.split(|b| *b == b' ')),
             Kind::FrCardinal => number(&self.french, phrase.split(is_joiner)),
             Kind::FrOrdinal => self.ordinal(phrase),
             Kind::UkMoney => self.money(manner, phrase),
-            _ => None,
+            Kind::UkOrdinal => self.ukrainian_ordinal(manner.settings, &with_one_sign(phrase)?),
+            Kind::UkYear => self.year(manner.settings, &with_one_sign(phrase)?),
+            Kind::UkDigitOrdinal => None,
         }?;
         let admitted = expect::refusal_of_text(manner.kind, text.as_bytes()).is_none();
         let spoken = admitted && expect::phrase(manner, text.as_bytes()).as_bytes() == phrase;
@@ -72,6 +79,29 @@ impl Reader {
         let word = self.cardinal_words.get(&phrase[last..])?;
         let words = phrase[..last].split(is_joiner).filter(|w| !w.is_empty());
         number(&self.french, words.chain([word.as_slice()]))
+    }
+
+    fn ukrainian_ordinal(&self, settings: Settings, phrase: &str) -> Option<String> {
+        let (front, last) = phrase.rsplit_once(' ').unwrap_or(("", phrase));
+        let stem = self.stems.find(settings, last)?;
+        let words = front.split(' ').filter(|word| !word.is_empty());
+        let meanings = words.map(|word| self.ukrainian.get(word.as_bytes()).copied());
+        let mut meanings: Vec<Meaning> = meanings.collect::<Option<_>>()?;
+        if stem.group == 0 {
+            return meanings.is_empty().then(|| "0".to_string());
+        }
+        meanings.push(Meaning::Value(stem.group));
+        meanings.extend((stem.order > 0).then_some(Meaning::Scale(stem.order)));
+        sum(&meanings)
+    }
+
+    /// An ordinal of masculine gender, a noun, and an early year's end.
+    fn year(&self, settings: Settings, phrase: &str) -> Option<String> {
+        let early = phrase.strip_suffix(school::EARLY);
+        let (ordinal, _) = early.unwrap_or(phrase).rsplit_once(' ')?;
+        let digits = self.ukrainian_ordinal(set(settings, 0, 0), ordinal)?;
+        let minus = if early.is_some() && digits != "0" { "-" } else { "" };
+        Some(format!("{minus}{digits}"))
     }
 
     fn money(&mut self, manner: &Manner, phrase: &[u8]) -> Option<String> {
@@ -92,6 +122,12 @@ impl Reader {
         let hundredths = amount(&rest[..rest.len() - form.len()])?;
         Some(format!("{whole}.{hundredths:0>2}"))
     }
+}
+
+/// A phrase with the Rust's sign in the place of each other; none that is not UTF-8 is spoken.
+fn with_one_sign(phrase: &[u8]) -> Option<String> {
+    let phrase = std::str::from_utf8(phrase).ok()?.to_string();
+    Some(SIGNS[1..].iter().fold(phrase, |phrase, sign| phrase.replace(sign, SIGNS[0])))
 }
 
 fn is_joiner(byte: &u8) -> bool {

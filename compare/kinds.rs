@@ -1,6 +1,6 @@
 //! The kinds of phrase, their settings and limits, and a figure to be spoken.
 
-/// What is spoken. Each kind has a spelling and a measuring call; four have a reading call.
+/// What is spoken. Each kind has a spelling and a measuring call; all but one have a reading call.
 #[derive(Clone, Copy, PartialEq, Eq, Hash, Debug)]
 pub enum Kind {
     UkCardinal,
@@ -30,11 +30,16 @@ pub enum Task {
     Reading,
 }
 
-/// Ukrainian: gender, number, case, apostrophe. French: feminine, reformed, region, and a 0.
-pub type Settings = [u32; 4];
+/// Ukrainian: gender, number, case, apostrophe, ordinal style. French: feminine, reformed, region,
+/// and zeros.
+pub type Settings = [u32; 5];
 
-/// Where the apostrophe stands among the Ukrainian settings.
+/// Where the settings that the Rust does not have stand among the Ukrainian ones.
 const APOSTROPHE: usize = 3;
+const STYLE: usize = 4;
+
+/// The style of ordinals as taught in school. The Rust's is 0.
+const SCHOOL: u32 = 1;
 
 /// The apostrophes by their numbers. The first is the Rust's.
 pub const SIGNS: [&str; 3] = ["\u{2bc}", "\u{2019}", "'"];
@@ -83,9 +88,11 @@ impl Kind {
         match self {
             Kind::UkCardinal => Some("uk_from_cardinal"),
             Kind::UkMoney => Some("uk_from_currency"),
+            Kind::UkOrdinal => Some("uk_from_ordinal"),
+            Kind::UkYear => Some("uk_from_year"),
             Kind::FrCardinal => Some("fr_from_cardinal"),
             Kind::FrOrdinal => Some("fr_from_ordinal"),
-            _ => None,
+            Kind::UkDigitOrdinal => None,
         }
     }
 
@@ -102,6 +109,11 @@ impl Kind {
         self.reading_call().is_some()
     }
 
+    /// Whether the ordinal style has an effect; such a kind is read in school's style alone.
+    pub fn has_styles(self) -> bool {
+        matches!(self, Kind::UkOrdinal | Kind::UkYear)
+    }
+
     pub fn is_french(self) -> bool {
         matches!(self, Kind::FrCardinal | Kind::FrOrdinal)
     }
@@ -111,7 +123,7 @@ impl Kind {
         if self.is_french() {
             &[2, 2, 3]
         } else {
-            &[3, 2, 6, 3]
+            &[3, 2, 6, 3, 2]
         }
     }
 
@@ -181,10 +193,31 @@ impl<'a> Manner<'a> {
         (!self.kind.is_french()).then(|| SIGNS[self.settings[APOSTROPHE] as usize])
     }
 
-    /// The manner with each sign in turn; in French the manner alone.
-    pub fn with_every_sign(self) -> impl Iterator<Item = Manner<'a>> {
+    /// The manner in school's style, where a style has an effect.
+    pub fn in_school(self) -> Self {
+        let style = if self.kind.has_styles() { SCHOOL } else { self.settings[STYLE] };
+        Manner { settings: set(self.settings, STYLE, style), ..self }
+    }
+
+    /// Whether the style is that of school, and has an effect.
+    pub fn is_school(&self) -> bool {
+        self.kind.has_styles() && self.settings[STYLE] == SCHOOL
+    }
+
+    /// Whether there is a call that reads such phrases.
+    pub fn is_read(&self) -> bool {
+        self.kind.is_read() && (self.is_school() || !self.kind.has_styles())
+    }
+
+    /// The manner with each sign and, where it has an effect, each style; in French it alone.
+    pub fn with_later_settings(self) -> impl Iterator<Item = Manner<'a>> {
         let signs = if self.kind.is_french() { 1 } else { SIGNS.len() as u32 };
-        (0..signs).map(move |n| Manner { settings: set(self.settings, APOSTROPHE, n), ..self })
+        let styles = if self.kind.has_styles() { SCHOOL } else { 0 };
+        let all = (0..=styles).flat_map(move |style| (0..signs).map(move |sign| (sign, style)));
+        all.map(move |(sign, style)| Manner {
+            settings: set(set(self.settings, APOSTROPHE, sign), STYLE, style),
+            ..self
+        })
     }
 
     pub fn show(&self) -> String {
@@ -199,6 +232,11 @@ impl<'a> Manner<'a> {
 /// Every manner of a kind: all settings and, for money, all codes.
 pub fn all_manners(kind: Kind) -> Vec<Manner<'static>> {
     manners(kind, kind.all_settings())
+}
+
+/// Every manner of a kind in which it is read.
+pub fn read_manners(kind: Kind) -> Vec<Manner<'static>> {
+    all_manners(kind).into_iter().filter(Manner::is_read).collect()
 }
 
 /// Every manner in the settings that the Rust has.

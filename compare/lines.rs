@@ -17,7 +17,7 @@ pub fn answer(line: &[u8]) -> String {
 
 /// The line that asks for this text in this manner.
 pub fn line(manner: &Manner, text: &[u8]) -> Vec<u8> {
-    let [a, b, c, _] = manner.settings.map(|setting| setting as usize);
+    let [a, b, c, ..] = manner.settings.map(|setting| setting as usize);
     let (kind, settings) = match manner.kind {
         Kind::FrCardinal => ("card", format!("fr {} {} {}", SEXES[a], SPELLINGS[b], REGIONS[c])),
         Kind::FrOrdinal => ("ord", format!("fr {} {} {}", SEXES[a], SPELLINGS[b], REGIONS[c])),
@@ -96,9 +96,9 @@ fn settings(kind: &[u8], words: &[u8]) -> Option<(Kind, Settings)> {
     };
     let kind = kinds.iter().find(|(name, _)| *name == kind)?.1;
     let settings = if kind.is_french() {
-        [place(&SEXES[..2], a)?, place(&SPELLINGS, b)?, place(&REGIONS, c)?, 0]
+        [place(&SEXES[..2], a)?, place(&SPELLINGS, b)?, place(&REGIONS, c)?, 0, 0]
     } else {
-        [place(&SEXES, a)?, place(&NUMBERS, b)?, place(&CASES, c)?, 0]
+        [place(&SEXES, a)?, place(&NUMBERS, b)?, place(&CASES, c)?, 0, 0]
     };
     Some((kind, settings))
 }

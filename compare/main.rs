@@ -1,4 +1,5 @@
-//! Compares every answer of the library with the published Rust's, through the C calls.
+//! Compares every answer of the library with the published Rust's, through the C calls. Ordinals in
+//! school's style, which the Rust does not have, are reckoned from its phrases.
 //!
 //! `compare` takes about a minute, `compare full` much longer;
 //! `compare samples TABLE FOLDER` writes expected answers instead and asks no call.
@@ -10,11 +11,14 @@ mod expect;
 mod guess;
 mod kinds;
 mod lines;
+mod ordinals;
 mod random;
 mod sample_lines;
 mod samples;
+mod school;
 mod shrink;
 mod spelling;
+mod stems;
 mod texts;
 
 use check::{Checker, Counts, Difference};
@@ -28,13 +32,18 @@ pub struct Size {
     pub full: bool,
     /// All texts up to here where the settings are few.
     pub few_settings: u32,
-    /// All texts up to here in each of the 108 Ukrainian settings.
+    /// All texts up to here in each of the Ukrainian settings.
     pub many_settings: u32,
-    /// All texts up to here in each of the 108 settings and 44 currencies.
+    /// All texts up to here in the same and each of the 44 currencies.
     pub most_settings: u32,
     /// All amounts up to so many hundredths in the same.
     pub hundredths: u32,
     pub random_texts: usize,
+    /// Of the 108 manners in which ordinals are read, every so many-th has its turn at a number below
+    /// a million, at a group of an order, and at all compounds.
+    pub million_step: usize,
+    pub group_step: usize,
+    pub compound_step: usize,
     /// Phrases of which every byte is changed.
     pub byte_phrases: usize,
     /// Phrases of which words are moved.
@@ -49,6 +58,9 @@ const QUICK: Size = Size {
     most_settings: 2_000,
     hundredths: 299,
     random_texts: 200_000,
+    million_step: 108,
+    group_step: 12,
+    compound_step: 37,
     byte_phrases: 72,
     word_phrases: 1_200,
     random_phrases: 2_000,
@@ -61,6 +73,9 @@ const FULL: Size = Size {
     most_settings: 2_000,
     hundredths: 2_000,
     random_texts: 1_000_000,
+    million_step: 3,
+    group_step: 1,
+    compound_step: 4,
     byte_phrases: 180,
     word_phrases: 6_000,
     random_phrases: 10_000,
@@ -113,6 +128,7 @@ fn compare_kind(kind: Kind, size: &Size, seed: u64) -> Result<Counts, Difference
     let mut checker = Checker::new(17);
     let mut random = Random::new(seed);
     spelling::run(kind, size, &mut checker, &mut random)?;
+    ordinals::run(kind, size, &mut checker)?;
     if kind.is_read() {
         damage::run(kind, size, &mut checker, &mut random)?;
     }
@@ -121,6 +137,7 @@ fn compare_kind(kind: Kind, size: &Size, seed: u64) -> Result<Counts, Difference
 
 fn add(total: &mut Counts, counts: &Counts) {
     total.spelled += counts.spelled;
+    total.schooled += counts.schooled;
     total.refused += counts.refused;
     total.measured += counts.measured;
     total.read_back += counts.read_back;
@@ -130,8 +147,10 @@ fn add(total: &mut Counts, counts: &Counts) {
 }
 
 fn show(counts: &Counts) -> String {
-    let Counts { spelled, refused, measured, read_back, rooms, damaged, still_sentences } = counts;
-    let spelling = format!("{spelled} phrases as the Rust's, {refused} texts refused as predicted");
+    let Counts { spelled, schooled, refused, measured, read_back, .. } = counts;
+    let Counts { rooms, damaged, still_sentences, .. } = counts;
+    let spelling = format!("{spelled} phrases as the Rust's, {schooled} as taught in school");
+    let spelling = format!("{spelling}, {refused} texts refused as predicted");
     let reading = format!("{read_back} phrases read back, {damaged} damaged phrases read");
     let reading = format!("{reading} ({still_sentences} of them sentences)");
     format!("{spelling}, {measured} measured, {reading}, {rooms} small buffers")

@@ -47,7 +47,7 @@ fn sample_text(kind: Kind, turn: usize, random: &mut Random) -> String {
 }
 
 fn refused_lines(kind: Kind) -> Vec<Vec<u8>> {
-    let settings = if kind.is_french() { [1, 1, 2, 0] } else { [2, 1, 5, 0] };
+    let settings = if kind.is_french() { [1, 1, 2, 0, 0] } else { [2, 1, 5, 0, 0] };
     let manner = Manner::new(kind, settings, "UAH");
     let texts = texts::MALFORMED.iter().filter(|t| !t.is_empty() && !t.contains([' ', '\n']));
     let mut lines: Vec<Vec<u8>> = texts.map(|t| lines::line(&manner, t.as_bytes())).collect();

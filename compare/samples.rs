@@ -40,7 +40,7 @@ fn expected_answers() -> String {
     let mut table = HEADER.to_string();
     for kind in KINDS {
         for (manner, text) in spread(kind) {
-            let [a, b, c, _] = manner.settings;
+            let [a, b, c, ..] = manner.settings;
             let code = String::from_utf8_lossy(manner.code);
             let code = if code.is_empty() { String::new() } else { format!(" {code}") };
             let phrase = expect::phrase(&manner, text.as_bytes());
@@ -80,7 +80,7 @@ fn money_spread() -> Vec<(Manner<'static>, String)> {
     let settings = Kind::UkMoney.ported_settings();
     for (turn, (code, case)) in CODES.iter().flat_map(|c| (0..6).map(move |k| (c, k))).enumerate() {
         let front = settings[(turn * 6) % settings.len()];
-        let manner = Manner::new(Kind::UkMoney, [front[0], front[1], case, 0], code);
+        let manner = Manner::new(Kind::UkMoney, [front[0], front[1], case, 0, 0], code);
         spread.push((manner, amounts[turn * 7 % amounts.len()].to_string()));
     }
     spread

@@ -30,7 +30,7 @@ fn short(manner: &Manner, size: &Size, checker: &mut Checker) -> Outcome {
     };
     let hundredths = if manner.kind == Kind::UkMoney { size.hundredths } else { 0 };
     let mut texts = texts::short(manner.kind, up_to).chain(texts::hundredths(hundredths));
-    texts.try_for_each(|text| checker.spelled_with_every_sign(manner, text.as_bytes()))
+    texts.try_for_each(|text| checker.spelled_in_later_settings(manner, text.as_bytes()))
 }
 
 fn refused(manner: &Manner, checker: &mut Checker) -> Outcome {
@@ -43,7 +43,7 @@ fn boundaries(kind: Kind, size: &Size, checker: &mut Checker) -> Outcome {
     let step = if kind == Kind::UkMoney && !size.full { 17 } else { 1 };
     for (at, text) in texts::boundaries(kind).iter().enumerate() {
         for manner in manners.iter().skip(at % step).step_by(step) {
-            checker.spelled_with_every_sign(manner, text.as_bytes())?;
+            checker.spelled_in_later_settings(manner, text.as_bytes())?;
         }
     }
     Ok(())

@@ -17,8 +17,10 @@
 BY_NAME(uk_to_cardinal, UK_TEXT)
 BY_NAME(uk_from_cardinal, UK_TEXT)
 BY_NAME(uk_to_ordinal, UK_TEXT)
+BY_NAME(uk_from_ordinal, UK_TEXT)
 BY_NAME(uk_to_ordinal_num, UK_TEXT)
 BY_NAME(uk_to_year, UK_YEAR)
+BY_NAME(uk_from_year, UK_TEXT)
 BY_NAME(uk_to_currency, UK_MONEY)
 BY_NAME(uk_from_currency, UK_MONEY)
 BY_NAME(fr_to_cardinal, FR_TEXT)
@@ -59,10 +61,12 @@ struct call calls[] = {
     {BOTH_FORMS(uk_from_currency, uk_on_money), .kind = MONEY, .reading = 1},
     {BOTH_FORMS(uk_to_ordinal, uk_on_text), .kind = ORDINAL,
      MEASURED(uk_measure_ordinal, uk_on_text)},
+    {BOTH_FORMS(uk_from_ordinal, uk_on_text), .kind = ORDINAL, .reading = 1},
     {BOTH_FORMS(uk_to_ordinal_num, uk_on_text), .kind = DIGIT_ORDINAL,
      MEASURED(uk_measure_ordinal_num, uk_on_text)},
     {BOTH_FORMS(uk_to_year, uk_on_year), .kind = YEAR,
      MEASURED(uk_measure_year, uk_on_year)},
+    {BOTH_FORMS(uk_from_year, uk_on_text), .kind = YEAR, .reading = 1},
 };
 
 const size_t call_count = sizeof calls / sizeof *calls;
@@ -82,26 +86,50 @@ struct call *find_call(const char *name) {
   return 0;
 }
 
-struct call *reading_call(const struct call *spelling) {
+/* Whether the call admits each of the settings. */
+static int admits(const struct call *call, const union settings *settings) {
+  for (int i = 0; i < setting_count(call); i++) {
+    uint32_t number = settings->numbers[i];
+    if (number < setting_least(call, i) || number >= setting_end(call, i)) return 0;
+  }
+  return 1;
+}
+
+struct call *reading_call(const struct request *spelling) {
+  const struct call *call = spelling->call;
   for (size_t i = 0; i < call_count; i++) {
     struct call *other = &calls[i];
-    if (other->reading && other->kind == spelling->kind && other->french == spelling->french)
-      return other;
+    if (other->reading && other->kind == call->kind && other->french == call->french)
+      return admits(other, &spelling->settings) ? other : 0;
   }
   return 0;
 }
 
 int setting_count(const struct call *call) { return call->french ? FR_SETTINGS : UK_SETTINGS; }
 
-uint32_t setting_size(const struct call *call, int setting) {
-  static const uint32_t ukrainian[UK_SETTINGS] = {3, 2, 6, 3}, french[FR_SETTINGS] = {2, 2, 3};
+/* Ordinals and years are read as taught in school; else 0 is admitted everywhere. */
+uint32_t setting_least(const struct call *call, int setting) {
+  static const union settings none, school = {.uk = {.ordinal_style = 1}};
+  int is_taught = !call->french && call->reading && (call->kind == ORDINAL || call->kind == YEAR);
+  return (is_taught ? &school : &none)->numbers[setting];
+}
+
+uint32_t setting_end(const struct call *call, int setting) {
+  static const uint32_t ukrainian[UK_SETTINGS] = {3, 2, 6, 3, 2}, french[FR_SETTINGS] = {2, 2, 3};
   return call->french ? french[setting] : ukrainian[setting];
+}
+
+union settings first_settings(const struct call *call) {
+  union settings settings = {{0}};
+  for (int i = 0; i < setting_count(call); i++)
+    settings.numbers[i] = setting_least(call, i);
+  return settings;
 }
 
 int next_settings(const struct call *call, union settings *settings) {
   for (int i = setting_count(call) - 1; i >= 0; i--) {
-    if (++settings->numbers[i] < setting_size(call, i)) return 1;
-    settings->numbers[i] = 0;
+    if (++settings->numbers[i] < setting_end(call, i)) return 1;
+    settings->numbers[i] = setting_least(call, i);
   }
   return 0;
 }
@@ -127,17 +155,21 @@ yokepear_answer ask(const struct request *r, uint8_t *out, size_t out_length) {
   return r->call->by_name(r, out, out_length);
 }
 
+/* The settings as numbers, in the order of a call's parameters. */
+#define IN_UK(s) s[0], s[1], s[2], s[3], s[4]
+#define IN_FR(s) s[0], s[1], s[2]
+
 yokepear_answer ask_by_number(const struct request *r, uint8_t *out, size_t out_length) {
   struct call *call = r->call;
   const uint32_t *s = r->settings.numbers;
   call->done.asked++;
-  if (call->uk_on_year) return call->uk_on_year(s[0], s[1], s[2], s[3], r->year, out, out_length);
+  if (call->uk_on_year) return call->uk_on_year(IN_UK(s), r->year, out, out_length);
   if (call->uk_on_money)
-    return call->uk_on_money(s[0], s[1], s[2], s[3], r->code, r->code_length, r->input,
-                             r->input_length, out, out_length);
+    return call->uk_on_money(IN_UK(s), r->code, r->code_length, r->input, r->input_length, out,
+                             out_length);
   if (call->uk_on_text)
-    return call->uk_on_text(s[0], s[1], s[2], s[3], r->input, r->input_length, out, out_length);
-  return call->fr_on_text(s[0], s[1], s[2], r->input, r->input_length, out, out_length);
+    return call->uk_on_text(IN_UK(s), r->input, r->input_length, out, out_length);
+  return call->fr_on_text(IN_FR(s), r->input, r->input_length, out, out_length);
 }
 
 yokepear_measure measure(const struct request *r) {
@@ -149,10 +181,9 @@ yokepear_measure measure_by_number(const struct request *r) {
   struct measuring *call = &r->call->measuring;
   const uint32_t *s = r->settings.numbers;
   call->done.asked++;
-  if (call->uk_on_year) return call->uk_on_year(s[0], s[1], s[2], s[3], r->year);
+  if (call->uk_on_year) return call->uk_on_year(IN_UK(s), r->year);
   if (call->uk_on_money)
-    return call->uk_on_money(s[0], s[1], s[2], s[3], r->code, r->code_length, r->input,
-                             r->input_length);
-  if (call->uk_on_text) return call->uk_on_text(s[0], s[1], s[2], s[3], r->input, r->input_length);
-  return call->fr_on_text(s[0], s[1], s[2], r->input, r->input_length);
+    return call->uk_on_money(IN_UK(s), r->code, r->code_length, r->input, r->input_length);
+  if (call->uk_on_text) return call->uk_on_text(IN_UK(s), r->input, r->input_length);
+  return call->fr_on_text(IN_FR(s), r->input, r->input_length);
 }

@@ -28,20 +28,19 @@ struct request {
   int64_t year;
 };
 
-typedef yokepear_answer uk_text_call(uint32_t, uint32_t, uint32_t, uint32_t, const void *, size_t,
-                                     void *, size_t);
-typedef yokepear_answer uk_money_call(uint32_t, uint32_t, uint32_t, uint32_t, const void *, size_t,
-                                      const void *, size_t, void *, size_t);
-typedef yokepear_answer uk_year_call(uint32_t, uint32_t, uint32_t, uint32_t, int64_t, void *,
-                                     size_t);
+/* The Ukrainian settings as numbers. */
+#define UK_NUMBERS uint32_t, uint32_t, uint32_t, uint32_t, uint32_t
+
+typedef yokepear_answer uk_text_call(UK_NUMBERS, const void *, size_t, void *, size_t);
+typedef yokepear_answer uk_money_call(UK_NUMBERS, const void *, size_t, const void *, size_t,
+                                      void *, size_t);
+typedef yokepear_answer uk_year_call(UK_NUMBERS, int64_t, void *, size_t);
 typedef yokepear_answer fr_text_call(uint32_t, uint32_t, uint32_t, const void *, size_t, void *,
                                      size_t);
 
-typedef yokepear_measure uk_text_measure(uint32_t, uint32_t, uint32_t, uint32_t, const void *,
-                                         size_t);
-typedef yokepear_measure uk_money_measure(uint32_t, uint32_t, uint32_t, uint32_t, const void *,
-                                          size_t, const void *, size_t);
-typedef yokepear_measure uk_year_measure(uint32_t, uint32_t, uint32_t, uint32_t, int64_t);
+typedef yokepear_measure uk_text_measure(UK_NUMBERS, const void *, size_t);
+typedef yokepear_measure uk_money_measure(UK_NUMBERS, const void *, size_t, const void *, size_t);
+typedef yokepear_measure uk_year_measure(UK_NUMBERS, int64_t);
 typedef yokepear_measure fr_text_measure(uint32_t, uint32_t, uint32_t, const void *, size_t);
 
 /* What a spelling call speaks; a reading call reads the same. */
@@ -89,14 +88,21 @@ extern const size_t code_count;
 /* The call of this name, or null if there is none. */
 struct call *find_call(const char *name);
 
-/* The reading call of the same kind and language, or null. */
-struct call *reading_call(const struct call *spelling);
+/*
+ * The call that reads what the request's spelling call says in its settings, or null: ordinals and
+ * years are read in one style alone.
+ */
+struct call *reading_call(const struct request *spelling);
 
 /* How many settings the call has. */
 int setting_count(const struct call *call);
 
-/* How many numbers the setting has. */
-uint32_t setting_size(const struct call *call, int setting);
+/* The least number that the call admits for the setting, and the one after the largest. */
+uint32_t setting_least(const struct call *call, int setting);
+uint32_t setting_end(const struct call *call, int setting);
+
+/* The call's first settings in order: those with the least numbers. */
+union settings first_settings(const struct call *call);
 
 /* The next settings in order; 0 after the last. */
 int next_settings(const struct call *call, union settings *settings);

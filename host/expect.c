@@ -23,7 +23,7 @@ static void show(const char *what) {
   printf("%s: ", what);
   show_call(r);
   if (r->call->kind == MONEY) printf(", code [%.*s]", (int)r->code_length, (const char *)r->code);
-  if (r->call->kind == YEAR)
+  if (r->call->kind == YEAR && !r->call->reading)
     printf(", year %lld\n", (long long)r->year);
   else
     printf(", input of %zu bytes [%.*s]\n", r->input_length,

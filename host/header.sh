@@ -51,16 +51,24 @@ extern void make(void); void make(void) {'
 }
 
 settings_in_place() {
-  local sign=YOKEPEAR_APOSTROPHE_ASCII
+  local sign=YOKEPEAR_APOSTROPHE_ASCII style=YOKEPEAR_ORDINAL_STYLE_SCHOOL
+  local noun='YOKEPEAR_FEMININE, YOKEPEAR_PLURAL, YOKEPEAR_GENITIVE'
   only_swapped 'settings that have changed places' \
-    "yokepear_uk s = {YOKEPEAR_FEMININE, YOKEPEAR_PLURAL, YOKEPEAR_GENITIVE, $sign}; made = s;" \
-    "yokepear_uk s = {$sign, YOKEPEAR_FEMININE, YOKEPEAR_PLURAL, YOKEPEAR_GENITIVE}; made = s;" "$@"
+    "yokepear_uk s = {$noun, $sign, $style}; made = s;" \
+    "yokepear_uk s = {$sign, $noun, $style}; made = s;" "$@"
+  only_swapped 'the last two settings in each other'"'"'s place' \
+    "yokepear_uk s = {$noun, $sign, $style}; made = s;" \
+    "yokepear_uk s = {$noun, $style, $sign}; made = s;" "$@"
   only_swapped 'a case for a gender' \
     'made.gender = YOKEPEAR_NEUTER;' 'made.gender = YOKEPEAR_DATIVE;' "$@"
   only_swapped 'an apostrophe for a case' \
     'made.grammatical_case = YOKEPEAR_DATIVE;' "made.grammatical_case = $sign;" "$@"
   only_swapped 'a case for an apostrophe' \
     "made.apostrophe = $sign;" 'made.apostrophe = YOKEPEAR_DATIVE;' "$@"
+  only_swapped 'a number for an ordinal style' \
+    "made.ordinal_style = $style;" 'made.ordinal_style = YOKEPEAR_PLURAL;' "$@"
+  only_swapped 'an ordinal style for a number' \
+    'made.number = YOKEPEAR_PLURAL;' "made.number = $style;" "$@"
   only_swapped 'a case for a region' \
     'french.region = YOKEPEAR_CH;' 'french.region = YOKEPEAR_DATIVE;' "$@"
   only_swapped 'the settings of the other language' \

@@ -51,47 +51,47 @@ static size_t used(const struct request *r, size_t room) {
   return first > second ? first : second;
 }
 
+/* Settings that are taken and not looked at. */
+#define FR_UNUSED uint32_t a, uint32_t b, uint32_t c
+#define UK_UNUSED FR_UNUSED, uint32_t d, uint32_t e
+#define IGNORE_FR (void)a, (void)b, (void)c
+#define IGNORE_UK IGNORE_FR, (void)d, (void)e
+
 /* Calls that do nothing: what asking itself takes. */
-static yokepear_answer no_uk_text(uint32_t a, uint32_t b, uint32_t c, uint32_t d, const void *s,
-                                  size_t n, void *o, size_t room) {
-  (void)a, (void)b, (void)c, (void)d, (void)s, (void)n, (void)o, (void)room;
+static yokepear_answer no_uk_text(UK_UNUSED, const void *s, size_t n, void *o, size_t room) {
+  IGNORE_UK, (void)s, (void)n, (void)o, (void)room;
   return (yokepear_answer){0, 0};
 }
-static yokepear_answer no_money(uint32_t a, uint32_t b, uint32_t c, uint32_t d, const void *k,
-                                size_t m, const void *s, size_t n, void *o, size_t room) {
-  (void)a, (void)b, (void)c, (void)d, (void)k, (void)m, (void)s, (void)n, (void)o, (void)room;
+static yokepear_answer no_money(UK_UNUSED, const void *k, size_t m, const void *s, size_t n,
+                                void *o, size_t room) {
+  IGNORE_UK, (void)k, (void)m, (void)s, (void)n, (void)o, (void)room;
   return (yokepear_answer){0, 0};
 }
-static yokepear_answer no_year(uint32_t a, uint32_t b, uint32_t c, uint32_t d, int64_t year,
-                               void *o, size_t room) {
-  (void)a, (void)b, (void)c, (void)d, (void)year, (void)o, (void)room;
+static yokepear_answer no_year(UK_UNUSED, int64_t year, void *o, size_t room) {
+  IGNORE_UK, (void)year, (void)o, (void)room;
   return (yokepear_answer){0, 0};
 }
-static yokepear_answer no_fr_text(uint32_t a, uint32_t b, uint32_t c, const void *s, size_t n,
-                                  void *o, size_t room) {
-  (void)a, (void)b, (void)c, (void)s, (void)n, (void)o, (void)room;
+static yokepear_answer no_fr_text(FR_UNUSED, const void *s, size_t n, void *o, size_t room) {
+  IGNORE_FR, (void)s, (void)n, (void)o, (void)room;
   return (yokepear_answer){0, 0};
 }
 
 /* The same of measuring calls. */
-static yokepear_measure no_uk_text_measure(uint32_t a, uint32_t b, uint32_t c, uint32_t d,
-                                           const void *s, size_t n) {
-  (void)a, (void)b, (void)c, (void)d, (void)s, (void)n;
+static yokepear_measure no_uk_text_measure(UK_UNUSED, const void *s, size_t n) {
+  IGNORE_UK, (void)s, (void)n;
   return (yokepear_measure){0, 0, 0};
 }
-static yokepear_measure no_money_measure(uint32_t a, uint32_t b, uint32_t c, uint32_t d,
-                                         const void *k, size_t m, const void *s, size_t n) {
-  (void)a, (void)b, (void)c, (void)d, (void)k, (void)m, (void)s, (void)n;
+static yokepear_measure no_money_measure(UK_UNUSED, const void *k, size_t m, const void *s,
+                                         size_t n) {
+  IGNORE_UK, (void)k, (void)m, (void)s, (void)n;
   return (yokepear_measure){0, 0, 0};
 }
-static yokepear_measure no_year_measure(uint32_t a, uint32_t b, uint32_t c, uint32_t d,
-                                        int64_t year) {
-  (void)a, (void)b, (void)c, (void)d, (void)year;
+static yokepear_measure no_year_measure(UK_UNUSED, int64_t year) {
+  IGNORE_UK, (void)year;
   return (yokepear_measure){0, 0, 0};
 }
-static yokepear_measure no_fr_text_measure(uint32_t a, uint32_t b, uint32_t c, const void *s,
-                                           size_t n) {
-  (void)a, (void)b, (void)c, (void)s, (void)n;
+static yokepear_measure no_fr_text_measure(FR_UNUSED, const void *s, size_t n) {
+  IGNORE_FR, (void)s, (void)n;
   return (yokepear_measure){0, 0, 0};
 }
 
@@ -130,8 +130,11 @@ static const char *const texts[] = {
 };
 
 static struct call *spelling_call(const struct call *reading) {
-  for (size_t i = 0; i < call_count; i++)
-    if (!calls[i].reading && reading_call(&calls[i]) == reading) return &calls[i];
+  for (size_t i = 0; i < call_count; i++) {
+    struct call *other = &calls[i];
+    if (!other->reading && other->kind == reading->kind && other->french == reading->french)
+      return other;
+  }
   return 0;
 }
 
@@ -185,10 +188,11 @@ static size_t deepest_of(struct call *call) {
   struct request r = {0};
   size_t most = 0;
   r.call = call;
+  r.settings = first_settings(call);
   set_code(&r, "ILS");
   do most = deeper(most, with_texts(r));
   while (next_settings(call, &r.settings));
-  static const char *const long_words[] = {"один ", "сто ", "un ", "cent ", "1", "-"};
+  static const char *const long_words[] = {"один ", "сто ", "двохсот", "un ", "cent ", "1", "-"};
   for (size_t i = 0; i < sizeof long_words / sizeof *long_words; i++)
     most = deeper(most, with_words(r, long_words[i]));
   return most - asking_alone(call);

@@ -21,6 +21,8 @@ int main(int argc, char **argv) {
   test_codes();
   test_phrases();
   test_apostrophes();
+  test_ordinals();
+  test_ordinal_damage();
   test_measures();
   test_sizes();
   size_t measuring = 0;

@@ -6,7 +6,8 @@ set -euo pipefail
 . "$(dirname "${BASH_SOURCE[0]}")/common.sh"
 "$host/header.sh"
 sources=(test.c test_header.c test_table.c test_texts.c test_codes.c test_phrases.c
-  test_apostrophes.c test_measures.c test_sizes.c ask.c guard.c expect.c figure.c longest.c)
+  test_apostrophes.c test_ordinals.c test_ordinal_damage.c test_measures.c test_sizes.c ask.c
+  guard.c expect.c figure.c longest.c)
 "${compile[@]}" "${sources[@]/#/$host/}" "$archive" -o "$build/test"
 "$build/test" "$host/expected.txt"
 "${compile[@]}" "$host/price_list.c" "$archive" -o "$build/price_list"

@@ -12,6 +12,9 @@
 
 enum { SIGNS = 3, MOST_PLACES = 3 };
 
+#define PORTED YOKEPEAR_ORDINAL_STYLE_PORTED
+#define SCHOOL YOKEPEAR_ORDINAL_STYLE_SCHOOL
+
 static const char *const signs[SIGNS] = {
     [YOKEPEAR_APOSTROPHE_U02BC] = "\xca\xbc",
     [YOKEPEAR_APOSTROPHE_U2019] = "\xe2\x80\x99",
@@ -21,27 +24,41 @@ static const char *const signs[SIGNS] = {
 /* What is said in the nominative; an asterisk stands where the sign does. */
 static const struct said {
   const char *call, *code, *text, *phrase;
+  yokepear_ordinal_style style;
 } all_said[] = {
-    {"uk_to_cardinal", "", "5", "п*ять"},
-    {"uk_to_cardinal", "", "59", "п*ятдесят дев*ять"},
-    {"uk_to_cardinal", "", "915", "дев*ятсот п*ятнадцять"},
-    {"uk_to_cardinal", "", "-519", "мінус п*ятсот дев*ятнадцять"},
-    {"uk_to_cardinal", "", "95000", "дев*яносто п*ять тисяч"},
-    {"uk_to_cardinal", "", "42", "сорок два"},
-    {"uk_to_currency", "UAH", "5.59", "п*ять гривень п*ятдесят дев*ять копійок"},
-    {"uk_to_currency", "UAH", "0.15", "п*ятнадцять копійок"},
-    {"uk_to_currency", "UAH", "1.02", "одна гривня дві копійки"},
-    {"uk_to_ordinal", "", "9", "дев*ятий"},
-    {"uk_to_ordinal", "", "15", "п*ятнадцятий"},
-    {"uk_to_ordinal", "", "50", "п*ятдесятий"},
-    {"uk_to_ordinal", "", "90", "дев*яностий"},
-    {"uk_to_ordinal", "", "595000", "п*ятисотдев*яностап*ятитисячний"},
-    {"uk_to_ordinal", "", "21000", "двадцятиоднотисячний"},
-    {"uk_to_ordinal_num", "", "59", "59-й"},
-    {"uk_to_year", "", "1995", "одна тисяча дев*ятсот дев*яносто п*ятий рік"},
-    {"uk_to_year", "", "2009", "дві тисячі дев*ятий рік"},
-    {"uk_to_year", "", "-5", "п*ятий рік до н.е."},
-    {"uk_to_year", "", "2000", "двохтисячний рік"},
+    {"uk_to_cardinal", "", "5", "п*ять", PORTED},
+    {"uk_to_cardinal", "", "59", "п*ятдесят дев*ять", PORTED},
+    {"uk_to_cardinal", "", "915", "дев*ятсот п*ятнадцять", PORTED},
+    {"uk_to_cardinal", "", "-519", "мінус п*ятсот дев*ятнадцять", PORTED},
+    {"uk_to_cardinal", "", "95000", "дев*яносто п*ять тисяч", PORTED},
+    {"uk_to_cardinal", "", "42", "сорок два", PORTED},
+    {"uk_to_currency", "UAH", "5.59", "п*ять гривень п*ятдесят дев*ять копійок", PORTED},
+    {"uk_to_currency", "UAH", "0.15", "п*ятнадцять копійок", PORTED},
+    {"uk_to_currency", "UAH", "1.02", "одна гривня дві копійки", PORTED},
+    {"uk_to_ordinal", "", "9", "дев*ятий", PORTED},
+    {"uk_to_ordinal", "", "15", "п*ятнадцятий", PORTED},
+    {"uk_to_ordinal", "", "50", "п*ятдесятий", PORTED},
+    {"uk_to_ordinal", "", "90", "дев*яностий", PORTED},
+    {"uk_to_ordinal", "", "595000", "п*ятисотдев*яностап*ятитисячний", PORTED},
+    {"uk_to_ordinal", "", "21000", "двадцятиоднотисячний", PORTED},
+    {"uk_to_ordinal_num", "", "59", "59-й", PORTED},
+    {"uk_to_year", "", "1995", "одна тисяча дев*ятсот дев*яносто п*ятий рік", PORTED},
+    {"uk_to_year", "", "2009", "дві тисячі дев*ятий рік", PORTED},
+    {"uk_to_year", "", "-5", "п*ятий рік до н.е.", PORTED},
+    {"uk_to_year", "", "2000", "двохтисячний рік", PORTED},
+    {"uk_to_ordinal", "", "9", "дев*ятий", SCHOOL},
+    {"uk_to_ordinal", "", "15", "п*ятнадцятий", SCHOOL},
+    {"uk_to_ordinal", "", "50", "п*ятдесятий", SCHOOL},
+    {"uk_to_ordinal", "", "90", "дев*яностий", SCHOOL},
+    {"uk_to_ordinal", "", "500", "п*ятисотий", SCHOOL},
+    {"uk_to_ordinal", "", "5900", "п*ять тисяч дев*ятисотий", SCHOOL},
+    {"uk_to_ordinal", "", "19000", "дев*ятнадцятитисячний", SCHOOL},
+    {"uk_to_ordinal", "", "90000", "дев*яностотисячний", SCHOOL},
+    {"uk_to_ordinal", "", "595000", "п*ятисотдев*яностоп*ятитисячний", SCHOOL},
+    {"uk_to_ordinal", "", "21000", "двадцятиоднотисячний", SCHOOL},
+    {"uk_to_year", "", "1900", "одна тисяча дев*ятисотий рік", SCHOOL},
+    {"uk_to_year", "", "-500", "п*ятисотий рік до н.е.", SCHOOL},
+    {"uk_to_year", "", "2000", "двохтисячний рік", SCHOOL},
 };
 
 /* What is not one of the signs: none, parts of them, two at a time, and others that look alike. */
@@ -76,14 +93,15 @@ static struct request request_for(const struct said *said, uint32_t apostrophe) 
   struct request r = {0};
   r.call = find_call(said->call);
   r.settings.uk.apostrophe = (yokepear_apostrophe)apostrophe;
+  r.settings.uk.ordinal_style = said->style;
   set_code(&r, said->code);
   set_text(&r, said->text);
   return r;
 }
 
-/* Makes a request to spell one to read these bytes; 0 if no call reads the kind. */
+/* Makes a request to spell one to read these bytes; 0 if no call reads them in its settings. */
 static int to_reading(struct request *r, const uint8_t *phrase, size_t length) {
-  r->call = reading_call(r->call);
+  r->call = reading_call(r);
   r->input = phrase;
   r->input_length = length;
   return r->call != 0;

@@ -15,7 +15,7 @@ static void known_code(struct request r, const char *amount) {
   set_text(&r, amount);
   size_t length = answer_of(&r, phrase);
   expect_answer(&r, phrase, length);
-  r.call = reading_call(r.call);
+  r.call = reading_call(&r);
   if (!r.call) return;
   r.input = phrase;
   r.input_length = length;

@@ -25,6 +25,8 @@ static const struct {
     {"uk_to_cardinal", {.uk = {.apostrophe = YOKEPEAR_APOSTROPHE_U02BC}}, "9", "дев\u02bcять"},
     {"uk_to_cardinal", {.uk = {.apostrophe = YOKEPEAR_APOSTROPHE_U2019}}, "9", "дев\u2019ять"},
     {"uk_to_cardinal", {.uk = {.apostrophe = YOKEPEAR_APOSTROPHE_ASCII}}, "9", "дев'ять"},
+    {"uk_to_ordinal", {.uk = {.ordinal_style = YOKEPEAR_ORDINAL_STYLE_PORTED}}, "200", "сотий"},
+    {"uk_to_ordinal", {.uk = {.ordinal_style = YOKEPEAR_ORDINAL_STYLE_SCHOOL}}, "200", "двохсотий"},
     {"fr_to_cardinal", {.fr = {0}}, "81", "quatre-vingt-un"},
     {"fr_to_cardinal", {.fr = {.feminine = 1}}, "81", "quatre-vingt-une"},
     {"fr_to_cardinal", {.fr = {.reformed = 1}}, "71", "soixante-et-onze"},

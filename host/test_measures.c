@@ -7,6 +7,7 @@
 
 #define U2019 {.uk = {.apostrophe = YOKEPEAR_APOSTROPHE_U2019}}
 #define ASCII {.uk = {.apostrophe = YOKEPEAR_APOSTROPHE_ASCII}}
+#define SCHOOL {.uk = {.ordinal_style = YOKEPEAR_ORDINAL_STYLE_SCHOOL}}
 
 /*
  * Words and bytes are counted by hand: a Ukrainian letter has two bytes, and so have é and è; the
@@ -30,12 +31,18 @@ static const struct {
     {"uk_to_ordinal", {.uk = {.number = YOKEPEAR_PLURAL}}, "", "42", "сорок другі", 2, 21},
     {"uk_to_ordinal", U2019, "", "90", "дев’яностий", 1, 23},
     {"uk_to_ordinal", ASCII, "", "9", "дев'ятий", 1, 15},
+    {"uk_to_ordinal", {{0}}, "", "200", "сотий", 1, 10},
+    {"uk_to_ordinal", SCHOOL, "", "200", "двохсотий", 1, 18},
+    {"uk_to_ordinal", SCHOOL, "", "1500", "одна тисяча пʼятисотий", 3, 42},
+    {"uk_to_ordinal", SCHOOL, "", "95000", "девʼяностопʼятитисячний", 1, 46},
     {"uk_to_ordinal_num", {{0}}, "", "1", "1-й", 1, 4},
+    {"uk_to_ordinal_num", SCHOOL, "", "200", "200-й", 1, 6},
     {"uk_to_ordinal_num", ASCII, "", "59", "59-й", 1, 5},
     {"uk_to_ordinal_num", {.uk = {.grammatical_case = YOKEPEAR_GENITIVE}}, "", "42", "42-го", 1, 7},
     {"uk_to_year", {{0}}, "", "2000", "двохтисячний рік", 2, 31},
     {"uk_to_year", {{0}}, "", "0", "нульовий рік до н.е.", 4, 35},
     {"uk_to_year", {{0}}, "", "-44", "сорок четвертий рік до н.е.", 5, 48},
+    {"uk_to_year", SCHOOL, "", "200", "двохсотий рік", 2, 25},
     {"uk_to_year", U2019, "", "2009", "дві тисячі дев’ятий рік", 4, 44},
     {"uk_to_year", ASCII, "", "1995", "одна тисяча дев'ятсот дев'яносто п'ятий рік", 6, 78},
     {"uk_to_currency", {{0}}, "UAH", "0", "нуль гривень", 2, 23},
@@ -150,7 +157,7 @@ static const struct {
 static void refuse_settings(struct request r) {
   for (int at = 0; at < setting_count(r.call); at++) {
     union settings good = r.settings;
-    r.settings.numbers[at] = setting_size(r.call, at);
+    r.settings.numbers[at] = setting_end(r.call, at);
     expect_refusal(&r, YOKEPEAR_BAD_SETTING);
     r.settings.numbers[at] = UINT32_MAX;
     expect_refusal(&r, YOKEPEAR_BAD_SETTING);

@@ -9,7 +9,7 @@ enum { LONG = 64 * 1024 };
 
 static const char *const ukrainian[] = {
     "два тисячі", "одна тисяч", "тисяча", "мільйон", "мінус", "мінус нуль", "нуль нуль",
-    "сорок  два", " сорок", "сорок ", "сороковий", "сорокдва", "двісорок", "два сорок", "два два",
+    "сорок  два", " сорок", "сорок ", "сорокдва", "двісорок", "два сорок", "два два",
     "пять", "п`ять", "п''ять", "п'ятьох", "п’ятдесят дев'ять", "пʼятсот п'ять", "Сорок",
     "сорок-два", "сорок,два", "мінус мінус один", "один мінус", "одна тисяча одна тисяча",
     "один мільйон один мільярд", "двадцять десять", "сто сто", "десять один", "нуль тисяч",
@@ -27,6 +27,11 @@ static const char *const french[] = {
     "deux premier",  "deuxièmes",    "zéroièmes",       "mille zéro",  "42",           "42e",
     "un million un million", "un milliard un billion", "quatre-vingts un", "quatre-vingts-un",
     "z\xc3",         "z\xe9ro",      "vingt et\xa0un",  "moins premier",
+};
+
+/* Sentences to the calls that read ordinals and years, and to no other. */
+static const char *const ordinals[] = {
+    "сороковий", "двохсотий", "стотисячний", "нульовий", "сороковий рік", "нульовий рік до н.е.",
 };
 
 static const char *const money[] = {
@@ -55,7 +60,8 @@ static void refused_list(const struct request *r, const char *const *phrases, si
 
 /* A word over and over, up to 64 KiB, and bytes of all sorts. */
 static void refused_long(const struct request *r) {
-  static const char *const words[] = {" ", "-", "один ", "сто ", "тисяча ", "mille ", "un-", "a"};
+  static const char *const words[] = {" ",       "-",      "один ", "сто ", "тисяча ", "двохсот",
+                                      "сороковий ", "mille ", "un-",   "a"};
   uint8_t *phrase = malloc(LONG);
   if (!phrase) abort();
   for (size_t i = 0; i < sizeof words / sizeof *words; i++) {
@@ -73,9 +79,17 @@ static void refused_long(const struct request *r) {
   free(phrase);
 }
 
+/* What the call reads in some setting; money is read in no such words. */
+static const char *sentence_of(const struct call *call) {
+  if (call->french) return call->kind == ORDINAL ? "zéroième" : "zéro";
+  if (call->kind == ORDINAL) return "сороковий";
+  if (call->kind == YEAR) return "сороковий рік";
+  return "сорок тисяч";
+}
+
 /* A spelled phrase with its closing zero byte, or without its last byte, is not one. */
 static void refused_cut(struct request r) {
-  const char *phrase = r.call->french ? "zéroième" : "сорок тисяч";
+  const char *phrase = sentence_of(r.call);
   size_t length = strlen(phrase);
   refused(r, (const uint8_t *)phrase, length + 1);
   refused(r, (const uint8_t *)phrase, length - 1);
@@ -87,10 +101,13 @@ void test_phrases(void) {
     struct request r = {0};
     r.call = &calls[i];
     if (!r.call->reading) continue;
+    r.settings = first_settings(r.call);
     set_code(&r, "UAH");
     refused_list(&r, ukrainian, sizeof ukrainian / sizeof *ukrainian);
     refused_list(&r, french, sizeof french / sizeof *french);
     if (r.call->kind == MONEY) refused_list(&r, money, sizeof money / sizeof *money);
+    if (r.call->french || r.call->kind == CARDINAL || r.call->kind == MONEY)
+      refused_list(&r, ordinals, sizeof ordinals / sizeof *ordinals);
     refused_long(&r);
     refused_cut(r);
   }

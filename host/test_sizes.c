@@ -22,13 +22,15 @@ static const struct size {
 } sizes[] = {
     {"uk_to_cardinal", YOKEPEAR_UK_CARDINAL_PHRASE, YOKEPEAR_UK_CARDINAL_TEXT, NINES_66, NINES_66,
      {.uk = {.gender = 1, .grammatical_case = 1, .apostrophe = 1}}},
-    {"uk_to_ordinal", YOKEPEAR_UK_ORDINAL_PHRASE, 0, NINES_66, 0,
-     {.uk = {.gender = 1, .number = 1, .grammatical_case = 1, .apostrophe = 1}}},
+    {"uk_to_ordinal", YOKEPEAR_UK_ORDINAL_PHRASE, YOKEPEAR_UK_ORDINAL_TEXT, NINES_66, 0,
+     {.uk = {.gender = 1, .number = 1, .grammatical_case = 1, .apostrophe = 1,
+             .ordinal_style = 1}}},
     {"uk_to_ordinal_num", YOKEPEAR_UK_ORDINAL_NUM_PHRASE, 0,
      "340282366920938463463374607431768211455", 0,
      {.uk = {.gender = 1, .number = 1, .grammatical_case = 1}}},
-    {"uk_to_year", YOKEPEAR_UK_YEAR_PHRASE, 0, "9223372036854775807", "9223372036854775808",
-     {.uk = {.number = 1, .grammatical_case = 1, .apostrophe = 1}}},
+    {"uk_to_year", YOKEPEAR_UK_YEAR_PHRASE, YOKEPEAR_UK_YEAR_TEXT, "9223372036854775807",
+     "9223372036854775808",
+     {.uk = {.number = 1, .grammatical_case = 1, .apostrophe = 1, .ordinal_style = 1}}},
     {"uk_to_currency", YOKEPEAR_UK_CURRENCY_PHRASE, YOKEPEAR_UK_CURRENCY_TEXT,
      "18446744073709551615", 0, {.uk = {.grammatical_case = 1, .apostrophe = 1}}},
     {"fr_to_cardinal", YOKEPEAR_FR_CARDINAL_PHRASE, YOKEPEAR_FR_CARDINAL_TEXT, NINES_102, NINES_102,
@@ -151,7 +153,7 @@ static void expect_both_ways(const struct request *spelling) {
   size_t length = answer_of(spelling, phrase);
   expect_answer(spelling, phrase, length);
   struct request reading = *spelling;
-  reading.call = reading_call(spelling->call);
+  reading.call = reading_call(spelling);
   if (!reading.call) return;
   reading.input = phrase;
   reading.input_length = length;
@@ -176,9 +178,13 @@ static void test_phrase_size(const struct size *size, struct call *call) {
   show(&r, text);
 }
 
-/* The least figure with a digit more than the limit is refused, so no admitted text is longer. */
+/*
+ * The least figure with a digit more than the limit is refused, so no admitted text is longer. A
+ * year is an int64_t, so there is none to be refused.
+ */
 static void refuse_longer(const struct size *size, struct request r) {
   char text[FIGURE_TEXT + 1];
+  if (r.call->kind == YEAR) return;
   int zeros = (int)strlen(size->limit);
   snprintf(text, sizeof text, "%s1%0*d%s", size->below_zero ? "-" : "", zeros, 0,
            r.call->kind == MONEY ? ".01" : "");

@@ -37,7 +37,7 @@ static void test_line(char *line) {
   if (strcmp(word(&rest, line), "->")) stop("the arrow is missing", line);
   set_text(&r, text);
   expect_answer(&r, (const uint8_t *)rest, strlen(rest));
-  r.call = reading_call(r.call);
+  r.call = reading_call(&r);
   if (!r.call) return;
   set_text(&r, rest);
   expect_answer(&r, (const uint8_t *)text, strlen(text));

@@ -20,7 +20,7 @@ static void admitted(struct request r) {
   uint8_t phrase[LARGE];
   size_t length = answer_of(&r, phrase);
   struct request back = r;
-  back.call = reading_call(r.call);
+  back.call = reading_call(&r);
   back.input = phrase;
   back.input_length = length;
   expect_answer(&r, phrase, length);
@@ -121,13 +121,12 @@ static void test_limits(struct call *call, const union settings *settings) {
 }
 
 static void test_years(struct call *call, const union settings *settings) {
-  static const int64_t years[] = {0,    1,     -1,      3,         13,        -43,
-                                  1991, 2000,  2024,    -2024,     1000000,   -1000000,
-                                  9999, 21000, INT64_MAX, INT64_MIN, INT64_MIN + 1, INT32_MIN};
+  static const char *const years[] = {
+      "0",     "1",        "-1",   "3",     "13",   "-43",  "200",  "1991", "2000", "2024", "-2024",
+      "1000000", "-1000000", "9999", "21000", "9223372036854775807", "-9223372036854775808",
+      "-9223372036854775807", "-2147483648"};
   for (size_t i = 0; i < sizeof years / sizeof *years; i++) {
-    struct request r = {0};
-    r.call = call;
-    r.year = years[i];
+    struct request r = on_text(call, years[i]);
     r.settings = *settings;
     admitted(r);
   }
@@ -137,11 +136,14 @@ static void test_years(struct call *call, const union settings *settings) {
 static void test_wrong_settings(struct call *call) {
   static const char *const inputs[] = {"1", "", "007", "-1", "1.50", "one"};
   for (int at = 0; at < setting_count(call); at++) {
-    uint32_t size = setting_size(call, at);
-    uint32_t wrong[] = {size, size + 1, 255, 256, 65536, 0x80000000u, UINT32_MAX};
+    uint32_t end = setting_end(call, at);
+    /* One less than the least number; that of 0 is the largest. */
+    uint32_t below = setting_least(call, at) - 1;
+    uint32_t wrong[] = {below, end, end + 1, 255, 256, 65536, 0x80000000u, UINT32_MAX};
     for (size_t i = 0; i < sizeof wrong / sizeof *wrong; i++)
       for (size_t k = 0; k < sizeof inputs / sizeof *inputs; k++) {
         struct request r = on_text(call, inputs[k]);
+        r.settings = first_settings(call);
         r.settings.numbers[at] = wrong[i];
         expect_refusal(&r, YOKEPEAR_BAD_SETTING);
         r.code_length = 2;

@@ -20,6 +20,12 @@ void test_phrases(void);
 /* The apostrophes of Ukrainian words, in all that a call does. */
 void test_apostrophes(void);
 
+/* Ordinals and years as taught in school: spelled, measured, read back, refused. */
+void test_ordinals(void);
+
+/* Their phrases damaged: refused, or what is read is spelled as those very bytes. */
+void test_ordinal_damage(void);
+
 /* Lengths and words of phrases, by hand and over many figures; refusals in their order. */
 void test_measures(void);
 

@@ -13,7 +13,8 @@
  *     else fwrite(out, 1, a.length, stdout);
  *
  * Two forms of each call
- *   yokepear_NAME takes its settings as numbers, at the front: that is the library's own call.
+ *   yokepear_NAME takes its settings as numbers, at the front: that is the library's own call. In
+ *   its declaration YOKEPEAR_UK_NUMBERS_ or YOKEPEAR_FR_NUMBERS_ stands for them, in their order.
  *   yokepear_NAME_in takes them as a struct, by name, and hands them on. Use it: settings that are
  *   named cannot change places; and one that a later version adds is then 0, which means what was
  *   said before. So let a struct begin as zeros: by named fields or `= {0}` in C, `= {}` in C++.
@@ -24,7 +25,8 @@
  *   no `-` before zero. Each call below says how large the number may be.
  *   A phrase is in small letters, its words joined by single spaces or hyphens; the Ukrainian
  *   apostrophe is U+02BC (CA BC) unless a setting chooses another. Phrases are those of the library
- *   that was ported, num2words, also where usage has others: docs/DIFFERENCES.md lists them.
+ *   that was ported, num2words, also where usage has others and no setting chooses them:
+ *   docs/DIFFERENCES.md lists them.
  *
  * Buffers
  *   A call takes any bytes, any lengths and any setting numbers. It reads no byte past an input's
@@ -51,7 +53,7 @@ extern "C" {
 
 /* While the first is 0, a step of the second may add settings to calls that take numbers. */
 #define YOKEPEAR_VERSION_MAJOR 0
-#define YOKEPEAR_VERSION_MINOR 4
+#define YOKEPEAR_VERSION_MINOR 5
 #define YOKEPEAR_VERSION_PATCH 0
 
 #define YOKEPEAR_TEXT_OF_(number) #number
@@ -93,7 +95,8 @@ typedef struct {
  */
 enum {
   YOKEPEAR_DONE = 0,
-  YOKEPEAR_BAD_SETTING = 1,    /* a setting number outside its range, even one of no effect here */
+  YOKEPEAR_BAD_SETTING = 1,    /* a setting outside its range, even one of no effect here, or an
+                                  ordinal style that is not read */
   YOKEPEAR_BAD_CODE = 2,       /* not one of the currency codes */
   YOKEPEAR_BAD_TEXT = 3,       /* a malformed number text */
   YOKEPEAR_NEGATIVE = 4,       /* a negative ordinal, digit ordinal or amount */
@@ -162,6 +165,17 @@ typedef enum yokepear_apostrophe YOKEPEAR_32_BITS_ {
   YOKEPEAR_APOSTROPHE_ASCII = 2  /* 27 */
 } yokepear_apostrophe;
 
+/*
+ * How spoken ordinals and years end; on all other phrases it has no effect. 200th, 100000th and
+ * 95000th are `сотий` (as is 100th), `статисячний` and `девʼяностапʼятитисячний` as ported, and
+ * `двохсотий`, `стотисячний` and `девʼяностопʼятитисячний` as taught in school. Only the latter
+ * are read: there a phrase has one number.
+ */
+typedef enum yokepear_ordinal_style YOKEPEAR_32_BITS_ {
+  YOKEPEAR_ORDINAL_STYLE_PORTED = 0,
+  YOKEPEAR_ORDINAL_STYLE_SCHOOL = 1
+} yokepear_ordinal_style;
+
 /* The names of 70, 80 and 90. */
 typedef enum yokepear_region YOKEPEAR_32_BITS_ {
   YOKEPEAR_FR = 0,
@@ -174,12 +188,16 @@ typedef enum yokepear_region YOKEPEAR_32_BITS_ {
 /* With -fshort-enums a number such as 256 would become 0 unseen: that is not compiled. */
 typedef char yokepear_enums_have_32_bits_[sizeof(yokepear_gender) == sizeof(uint32_t) ? 1 : -1];
 
-/* Ukrainian settings by name. All zero: masculine, singular, nominative, the apostrophe U+02BC. */
+/*
+ * Ukrainian settings by name. All zero: masculine, singular, nominative, the apostrophe U+02BC,
+ * ordinals as ported.
+ */
 typedef struct {
   yokepear_gender gender;
   yokepear_grammatical_number number;
   yokepear_grammatical_case grammatical_case;
   yokepear_apostrophe apostrophe;
+  yokepear_ordinal_style ordinal_style;
 } yokepear_uk;
 
 /* French settings by name. All zero: masculine, words joined by spaces, the names of France. */
@@ -189,9 +207,14 @@ typedef struct {
   yokepear_region region;
 } yokepear_fr;
 
-/* The settings as a call takes them. */
-#define YOKEPEAR_UK_(settings) \
-  (settings).gender, (settings).number, (settings).grammatical_case, (settings).apostrophe
+/* The settings as a call takes them: its parameters, and a struct's fields in their places. */
+#define YOKEPEAR_UK_NUMBERS_                                                                     \
+  uint32_t gender, uint32_t number, uint32_t grammatical_case, uint32_t apostrophe,              \
+      uint32_t ordinal_style
+#define YOKEPEAR_UK_(settings)                                                                   \
+  (settings).gender, (settings).number, (settings).grammatical_case, (settings).apostrophe,      \
+      (settings).ordinal_style
+#define YOKEPEAR_FR_NUMBERS_ uint32_t feminine, uint32_t reformed, uint32_t region
 #define YOKEPEAR_FR_(settings) (settings).feminine, (settings).reformed, (settings).region
 
 /* ---- Ukrainian cardinals ------------------------------------------------------------------- */
@@ -203,25 +226,20 @@ typedef struct {
  * Speaks a number of at most 66 digits: 42, feminine, nominative is `сорок дві`; a negative one
  * begins with `мінус`. `number` has no effect on cardinals. Refuses by 1, 3, 5, 7.
  */
-yokepear_answer yokepear_uk_to_cardinal(uint32_t gender, uint32_t number,
-                                        uint32_t grammatical_case, uint32_t apostrophe,
-                                        const void *text, size_t text_length,
-                                        void *out, size_t out_length);
+yokepear_answer yokepear_uk_to_cardinal(
+    YOKEPEAR_UK_NUMBERS_, const void *text, size_t text_length, void *out, size_t out_length);
 
-static inline yokepear_answer yokepear_uk_to_cardinal_in(yokepear_uk settings,
-                                                         const void *text, size_t text_length,
-                                                         void *out, size_t out_length) {
+static inline yokepear_answer yokepear_uk_to_cardinal_in(
+    yokepear_uk settings, const void *text, size_t text_length, void *out, size_t out_length) {
   return yokepear_uk_to_cardinal(YOKEPEAR_UK_(settings), text, text_length, out, out_length);
 }
 
 /* Measures the phrase that yokepear_uk_to_cardinal says. Refuses by 1, 3, 5. */
-yokepear_measure yokepear_uk_measure_cardinal(uint32_t gender, uint32_t number,
-                                              uint32_t grammatical_case, uint32_t apostrophe,
-                                              const void *text, size_t text_length);
+yokepear_measure yokepear_uk_measure_cardinal(
+    YOKEPEAR_UK_NUMBERS_, const void *text, size_t text_length);
 
-static inline yokepear_measure yokepear_uk_measure_cardinal_in(yokepear_uk settings,
-                                                               const void *text,
-                                                               size_t text_length) {
+static inline yokepear_measure yokepear_uk_measure_cardinal_in(
+    yokepear_uk settings, const void *text, size_t text_length) {
   return yokepear_uk_measure_cardinal(YOKEPEAR_UK_(settings), text, text_length);
 }
 
@@ -229,74 +247,76 @@ static inline yokepear_measure yokepear_uk_measure_cardinal_in(yokepear_uk setti
  * Reads a phrase and writes its number text: exactly the phrases that yokepear_uk_to_cardinal
  * says in the same settings are read, every other one is refused. Refuses by 1, 6, 7.
  */
-yokepear_answer yokepear_uk_from_cardinal(uint32_t gender, uint32_t number,
-                                          uint32_t grammatical_case, uint32_t apostrophe,
-                                          const void *phrase, size_t phrase_length,
-                                          void *out, size_t out_length);
+yokepear_answer yokepear_uk_from_cardinal(
+    YOKEPEAR_UK_NUMBERS_, const void *phrase, size_t phrase_length, void *out, size_t out_length);
 
-static inline yokepear_answer yokepear_uk_from_cardinal_in(yokepear_uk settings,
-                                                           const void *phrase, size_t phrase_length,
-                                                           void *out, size_t out_length) {
+static inline yokepear_answer yokepear_uk_from_cardinal_in(
+    yokepear_uk settings, const void *phrase, size_t phrase_length, void *out, size_t out_length) {
   return yokepear_uk_from_cardinal(YOKEPEAR_UK_(settings), phrase, phrase_length, out, out_length);
 }
 
 /* ---- Ukrainian ordinals, digit ordinals and years ------------------------------------------ */
 
 #define YOKEPEAR_UK_ORDINAL_PHRASE 1841
+#define YOKEPEAR_UK_ORDINAL_TEXT 66
 #define YOKEPEAR_UK_ORDINAL_NUM_PHRASE 44
 #define YOKEPEAR_UK_YEAR_PHRASE 513
+#define YOKEPEAR_UK_YEAR_TEXT 20
 
 /*
  * Speaks the ordinal of a number of at most 66 digits, which is not negative: 21000, masculine,
  * singular, nominative is `двадцятиоднотисячний`. In the plural `gender` has no effect.
  * Refuses by 1, 3, 4, 5, 7.
  */
-yokepear_answer yokepear_uk_to_ordinal(uint32_t gender, uint32_t number,
-                                       uint32_t grammatical_case, uint32_t apostrophe,
-                                       const void *text, size_t text_length,
-                                       void *out, size_t out_length);
+yokepear_answer yokepear_uk_to_ordinal(
+    YOKEPEAR_UK_NUMBERS_, const void *text, size_t text_length, void *out, size_t out_length);
 
-static inline yokepear_answer yokepear_uk_to_ordinal_in(yokepear_uk settings,
-                                                        const void *text, size_t text_length,
-                                                        void *out, size_t out_length) {
+static inline yokepear_answer yokepear_uk_to_ordinal_in(
+    yokepear_uk settings, const void *text, size_t text_length, void *out, size_t out_length) {
   return yokepear_uk_to_ordinal(YOKEPEAR_UK_(settings), text, text_length, out, out_length);
 }
 
 /* Measures the phrase that yokepear_uk_to_ordinal says. Refuses by 1, 3, 4, 5. */
-yokepear_measure yokepear_uk_measure_ordinal(uint32_t gender, uint32_t number,
-                                             uint32_t grammatical_case, uint32_t apostrophe,
-                                             const void *text, size_t text_length);
+yokepear_measure yokepear_uk_measure_ordinal(
+    YOKEPEAR_UK_NUMBERS_, const void *text, size_t text_length);
 
-static inline yokepear_measure yokepear_uk_measure_ordinal_in(yokepear_uk settings,
-                                                              const void *text,
-                                                              size_t text_length) {
+static inline yokepear_measure yokepear_uk_measure_ordinal_in(
+    yokepear_uk settings, const void *text, size_t text_length) {
   return yokepear_uk_measure_ordinal(YOKEPEAR_UK_(settings), text, text_length);
+}
+
+/*
+ * Reads a phrase and writes its number text: exactly the phrases that yokepear_uk_to_ordinal says
+ * in the same settings are read, every other one is refused. The style is the school's; as ported
+ * nothing is read. Refuses by 1, 6, 7.
+ */
+yokepear_answer yokepear_uk_from_ordinal(
+    YOKEPEAR_UK_NUMBERS_, const void *phrase, size_t phrase_length, void *out, size_t out_length);
+
+static inline yokepear_answer yokepear_uk_from_ordinal_in(
+    yokepear_uk settings, const void *phrase, size_t phrase_length, void *out, size_t out_length) {
+  return yokepear_uk_from_ordinal(YOKEPEAR_UK_(settings), phrase, phrase_length, out, out_length);
 }
 
 /*
  * Writes a digit ordinal: 42, masculine, singular, genitive is `42-го`. The number is not negative
  * and at most 340282366920938463463374607431768211455. In the plural `gender` has no effect, and
- * `apostrophe` nowhere. Refuses by 1, 3, 4, 5, 7.
+ * `apostrophe` and `ordinal_style` nowhere. Refuses by 1, 3, 4, 5, 7.
  */
-yokepear_answer yokepear_uk_to_ordinal_num(uint32_t gender, uint32_t number,
-                                           uint32_t grammatical_case, uint32_t apostrophe,
-                                           const void *text, size_t text_length,
-                                           void *out, size_t out_length);
+yokepear_answer yokepear_uk_to_ordinal_num(
+    YOKEPEAR_UK_NUMBERS_, const void *text, size_t text_length, void *out, size_t out_length);
 
-static inline yokepear_answer yokepear_uk_to_ordinal_num_in(yokepear_uk settings,
-                                                            const void *text, size_t text_length,
-                                                            void *out, size_t out_length) {
+static inline yokepear_answer yokepear_uk_to_ordinal_num_in(
+    yokepear_uk settings, const void *text, size_t text_length, void *out, size_t out_length) {
   return yokepear_uk_to_ordinal_num(YOKEPEAR_UK_(settings), text, text_length, out, out_length);
 }
 
 /* Measures the phrase that yokepear_uk_to_ordinal_num says. Refuses by 1, 3, 4, 5. */
-yokepear_measure yokepear_uk_measure_ordinal_num(uint32_t gender, uint32_t number,
-                                                 uint32_t grammatical_case, uint32_t apostrophe,
-                                                 const void *text, size_t text_length);
+yokepear_measure yokepear_uk_measure_ordinal_num(
+    YOKEPEAR_UK_NUMBERS_, const void *text, size_t text_length);
 
-static inline yokepear_measure yokepear_uk_measure_ordinal_num_in(yokepear_uk settings,
-                                                                  const void *text,
-                                                                  size_t text_length) {
+static inline yokepear_measure yokepear_uk_measure_ordinal_num_in(
+    yokepear_uk settings, const void *text, size_t text_length) {
   return yokepear_uk_measure_ordinal_num(YOKEPEAR_UK_(settings), text, text_length);
 }
 
@@ -304,22 +324,32 @@ static inline yokepear_measure yokepear_uk_measure_ordinal_num_in(yokepear_uk se
  * Speaks a year, any int64_t: -43, singular, genitive is `сорок третього року до н.е.`; year 0 and
  * all years below it end in `до н.е.`. `gender` has no effect on years. Refuses by 1 and 7.
  */
-yokepear_answer yokepear_uk_to_year(uint32_t gender, uint32_t number,
-                                    uint32_t grammatical_case, uint32_t apostrophe,
-                                    int64_t year, void *out, size_t out_length);
+yokepear_answer yokepear_uk_to_year(
+    YOKEPEAR_UK_NUMBERS_, int64_t year, void *out, size_t out_length);
 
-static inline yokepear_answer yokepear_uk_to_year_in(yokepear_uk settings, int64_t year,
-                                                     void *out, size_t out_length) {
+static inline yokepear_answer yokepear_uk_to_year_in(
+    yokepear_uk settings, int64_t year, void *out, size_t out_length) {
   return yokepear_uk_to_year(YOKEPEAR_UK_(settings), year, out, out_length);
 }
 
 /* Measures the phrase that yokepear_uk_to_year says. Refuses by 1. */
-yokepear_measure yokepear_uk_measure_year(uint32_t gender, uint32_t number,
-                                          uint32_t grammatical_case, uint32_t apostrophe,
-                                          int64_t year);
+yokepear_measure yokepear_uk_measure_year(YOKEPEAR_UK_NUMBERS_, int64_t year);
 
 static inline yokepear_measure yokepear_uk_measure_year_in(yokepear_uk settings, int64_t year) {
   return yokepear_uk_measure_year(YOKEPEAR_UK_(settings), year);
+}
+
+/*
+ * Reads a phrase and writes its year as a number text: exactly the phrases that yokepear_uk_to_year
+ * says in the same settings are read, every other one is refused, also one for a year that is no
+ * int64_t. The style is the school's; as ported nothing is read. Refuses by 1, 6, 7.
+ */
+yokepear_answer yokepear_uk_from_year(
+    YOKEPEAR_UK_NUMBERS_, const void *phrase, size_t phrase_length, void *out, size_t out_length);
+
+static inline yokepear_answer yokepear_uk_from_year_in(
+    yokepear_uk settings, const void *phrase, size_t phrase_length, void *out, size_t out_length) {
+  return yokepear_uk_from_year(YOKEPEAR_UK_(settings), phrase, phrase_length, out, out_length);
 }
 
 /* ---- Ukrainian money ----------------------------------------------------------------------- */
@@ -337,30 +367,25 @@ static inline yokepear_measure yokepear_uk_measure_year_in(yokepear_uk settings,
  * in capitals; DINAR, DOLLAR, PESO and RIYAL are for any currency of that name.
  * Refuses by 1, 2, 3, 4, 5, 7.
  */
-yokepear_answer yokepear_uk_to_currency(uint32_t gender, uint32_t number,
-                                        uint32_t grammatical_case, uint32_t apostrophe,
-                                        const void *code, size_t code_length,
-                                        const void *text, size_t text_length,
-                                        void *out, size_t out_length);
+yokepear_answer yokepear_uk_to_currency(
+    YOKEPEAR_UK_NUMBERS_, const void *code, size_t code_length,
+    const void *text, size_t text_length, void *out, size_t out_length);
 
-static inline yokepear_answer yokepear_uk_to_currency_in(yokepear_uk settings,
-                                                         const void *code, size_t code_length,
-                                                         const void *text, size_t text_length,
-                                                         void *out, size_t out_length) {
+static inline yokepear_answer yokepear_uk_to_currency_in(
+    yokepear_uk settings, const void *code, size_t code_length,
+    const void *text, size_t text_length, void *out, size_t out_length) {
   return yokepear_uk_to_currency(YOKEPEAR_UK_(settings), code, code_length, text, text_length, out,
                                  out_length);
 }
 
 /* Measures the phrase that yokepear_uk_to_currency says. Refuses by 1, 2, 3, 4, 5. */
-yokepear_measure yokepear_uk_measure_currency(uint32_t gender, uint32_t number,
-                                              uint32_t grammatical_case, uint32_t apostrophe,
-                                              const void *code, size_t code_length,
-                                              const void *text, size_t text_length);
+yokepear_measure yokepear_uk_measure_currency(
+    YOKEPEAR_UK_NUMBERS_, const void *code, size_t code_length,
+    const void *text, size_t text_length);
 
-static inline yokepear_measure yokepear_uk_measure_currency_in(yokepear_uk settings,
-                                                               const void *code, size_t code_length,
-                                                               const void *text,
-                                                               size_t text_length) {
+static inline yokepear_measure yokepear_uk_measure_currency_in(
+    yokepear_uk settings, const void *code, size_t code_length,
+    const void *text, size_t text_length) {
   return yokepear_uk_measure_currency(YOKEPEAR_UK_(settings), code, code_length, text, text_length);
 }
 
@@ -369,16 +394,13 @@ static inline yokepear_measure yokepear_uk_measure_currency_in(yokepear_uk setti
  * says in the same settings and currency are read, every other one is refused, also one for an
  * amount above the limit. Refuses by 1, 2, 6, 7.
  */
-yokepear_answer yokepear_uk_from_currency(uint32_t gender, uint32_t number,
-                                          uint32_t grammatical_case, uint32_t apostrophe,
-                                          const void *code, size_t code_length,
-                                          const void *phrase, size_t phrase_length,
-                                          void *out, size_t out_length);
+yokepear_answer yokepear_uk_from_currency(
+    YOKEPEAR_UK_NUMBERS_, const void *code, size_t code_length,
+    const void *phrase, size_t phrase_length, void *out, size_t out_length);
 
-static inline yokepear_answer yokepear_uk_from_currency_in(yokepear_uk settings,
-                                                           const void *code, size_t code_length,
-                                                           const void *phrase, size_t phrase_length,
-                                                           void *out, size_t out_length) {
+static inline yokepear_answer yokepear_uk_from_currency_in(
+    yokepear_uk settings, const void *code, size_t code_length,
+    const void *phrase, size_t phrase_length, void *out, size_t out_length) {
   return yokepear_uk_from_currency(YOKEPEAR_UK_(settings), code, code_length, phrase,
                                    phrase_length, out, out_length);
 }
@@ -393,23 +415,20 @@ static inline yokepear_answer yokepear_uk_from_currency_in(yokepear_uk settings,
  * 81, feminine, CH is `huitante et une`; a negative one begins with `moins`.
  * Refuses by 1, 3, 5, 7.
  */
-yokepear_answer yokepear_fr_to_cardinal(uint32_t feminine, uint32_t reformed, uint32_t region,
-                                        const void *text, size_t text_length,
-                                        void *out, size_t out_length);
+yokepear_answer yokepear_fr_to_cardinal(
+    YOKEPEAR_FR_NUMBERS_, const void *text, size_t text_length, void *out, size_t out_length);
 
-static inline yokepear_answer yokepear_fr_to_cardinal_in(yokepear_fr settings,
-                                                         const void *text, size_t text_length,
-                                                         void *out, size_t out_length) {
+static inline yokepear_answer yokepear_fr_to_cardinal_in(
+    yokepear_fr settings, const void *text, size_t text_length, void *out, size_t out_length) {
   return yokepear_fr_to_cardinal(YOKEPEAR_FR_(settings), text, text_length, out, out_length);
 }
 
 /* Measures the phrase that yokepear_fr_to_cardinal says. Refuses by 1, 3, 5. */
-yokepear_measure yokepear_fr_measure_cardinal(uint32_t feminine, uint32_t reformed, uint32_t region,
-                                              const void *text, size_t text_length);
+yokepear_measure yokepear_fr_measure_cardinal(
+    YOKEPEAR_FR_NUMBERS_, const void *text, size_t text_length);
 
-static inline yokepear_measure yokepear_fr_measure_cardinal_in(yokepear_fr settings,
-                                                               const void *text,
-                                                               size_t text_length) {
+static inline yokepear_measure yokepear_fr_measure_cardinal_in(
+    yokepear_fr settings, const void *text, size_t text_length) {
   return yokepear_fr_measure_cardinal(YOKEPEAR_FR_(settings), text, text_length);
 }
 
@@ -417,13 +436,11 @@ static inline yokepear_measure yokepear_fr_measure_cardinal_in(yokepear_fr setti
  * Reads a phrase and writes its number text: exactly the phrases that yokepear_fr_to_cardinal
  * says in the same settings are read, every other one is refused. Refuses by 1, 6, 7.
  */
-yokepear_answer yokepear_fr_from_cardinal(uint32_t feminine, uint32_t reformed, uint32_t region,
-                                          const void *phrase, size_t phrase_length,
-                                          void *out, size_t out_length);
+yokepear_answer yokepear_fr_from_cardinal(
+    YOKEPEAR_FR_NUMBERS_, const void *phrase, size_t phrase_length, void *out, size_t out_length);
 
-static inline yokepear_answer yokepear_fr_from_cardinal_in(yokepear_fr settings,
-                                                           const void *phrase, size_t phrase_length,
-                                                           void *out, size_t out_length) {
+static inline yokepear_answer yokepear_fr_from_cardinal_in(
+    yokepear_fr settings, const void *phrase, size_t phrase_length, void *out, size_t out_length) {
   return yokepear_fr_from_cardinal(YOKEPEAR_FR_(settings), phrase, phrase_length, out, out_length);
 }
 
@@ -436,23 +453,20 @@ static inline yokepear_answer yokepear_fr_from_cardinal_in(yokepear_fr settings,
  * Speaks the ordinal of a number of at most 102 digits, which is not negative: 1 is `premier`,
  * 200 is `deux centsième`. `feminine` has no effect on ordinals. Refuses by 1, 3, 4, 5, 7.
  */
-yokepear_answer yokepear_fr_to_ordinal(uint32_t feminine, uint32_t reformed, uint32_t region,
-                                       const void *text, size_t text_length,
-                                       void *out, size_t out_length);
+yokepear_answer yokepear_fr_to_ordinal(
+    YOKEPEAR_FR_NUMBERS_, const void *text, size_t text_length, void *out, size_t out_length);
 
-static inline yokepear_answer yokepear_fr_to_ordinal_in(yokepear_fr settings,
-                                                        const void *text, size_t text_length,
-                                                        void *out, size_t out_length) {
+static inline yokepear_answer yokepear_fr_to_ordinal_in(
+    yokepear_fr settings, const void *text, size_t text_length, void *out, size_t out_length) {
   return yokepear_fr_to_ordinal(YOKEPEAR_FR_(settings), text, text_length, out, out_length);
 }
 
 /* Measures the phrase that yokepear_fr_to_ordinal says. Refuses by 1, 3, 4, 5. */
-yokepear_measure yokepear_fr_measure_ordinal(uint32_t feminine, uint32_t reformed, uint32_t region,
-                                             const void *text, size_t text_length);
+yokepear_measure yokepear_fr_measure_ordinal(
+    YOKEPEAR_FR_NUMBERS_, const void *text, size_t text_length);
 
-static inline yokepear_measure yokepear_fr_measure_ordinal_in(yokepear_fr settings,
-                                                              const void *text,
-                                                              size_t text_length) {
+static inline yokepear_measure yokepear_fr_measure_ordinal_in(
+    yokepear_fr settings, const void *text, size_t text_length) {
   return yokepear_fr_measure_ordinal(YOKEPEAR_FR_(settings), text, text_length);
 }
 
@@ -460,19 +474,19 @@ static inline yokepear_measure yokepear_fr_measure_ordinal_in(yokepear_fr settin
  * Reads a phrase and writes its number text: exactly the phrases that yokepear_fr_to_ordinal
  * says in the same settings are read, every other one is refused. Refuses by 1, 6, 7.
  */
-yokepear_answer yokepear_fr_from_ordinal(uint32_t feminine, uint32_t reformed, uint32_t region,
-                                         const void *phrase, size_t phrase_length,
-                                         void *out, size_t out_length);
+yokepear_answer yokepear_fr_from_ordinal(
+    YOKEPEAR_FR_NUMBERS_, const void *phrase, size_t phrase_length, void *out, size_t out_length);
 
-static inline yokepear_answer yokepear_fr_from_ordinal_in(yokepear_fr settings,
-                                                          const void *phrase, size_t phrase_length,
-                                                          void *out, size_t out_length) {
+static inline yokepear_answer yokepear_fr_from_ordinal_in(
+    yokepear_fr settings, const void *phrase, size_t phrase_length, void *out, size_t out_length) {
   return yokepear_fr_from_ordinal(YOKEPEAR_FR_(settings), phrase, phrase_length, out, out_length);
 }
 
 /* ---- end of the calls ---------------------------------------------------------------------- */
 
+#undef YOKEPEAR_UK_NUMBERS_
 #undef YOKEPEAR_UK_
+#undef YOKEPEAR_FR_NUMBERS_
 #undef YOKEPEAR_FR_
 
 #ifdef __cplusplus
