@@ -138,7 +138,7 @@ year-fine t e = go (wellFormed t) (ltb (yearLimit (negative t)) (value (unsigned
     go true true p q r = absurd (omega arith)
     go true false p q r = (p, ltb-false (yearLimit (negative t)) (value (unsigned t)) q)
 
-year-admitted : {m : Bool} {n : ℕ} {t : List ℕ} → IsNumber m n t → n ≤ yearLimit m → Admitted (yearRefusals t)
+pub year-admitted : {m : Bool} {n : ℕ} {t : List ℕ} → IsNumber m n t → n ≤ yearLimit m → Admitted (yearRefusals t)
 year-admitted {m} {n} {t} x h = rw (x .formed, le-ltb (yearLimit (negative t)) (value (unsigned t)) (rw (x .sign, x .means) h)) refl
 
 -- a year's magnitude has few digits

@@ -1,13 +1,13 @@
 -- Demand 3 for Ukrainian ordinals and years as taught in school, over the calls' definitions: a phrase is read as the one text that is spelled so.
 -- Assumes nothing.
 use Prim.Native.Nat.{ℕ, zero, suc, _^_, _<_, _≤_}
-use mathlib.Core.Path.{_≡_, refl, sym, ap, _∙_}
+use mathlib.Core.Path.{_≡_, refl, sym, ap, _∙_, subst}
 use mathlib.Core.Bool.{Bool, true, false, cond}
 use mathlib.Core.List.{List}
 use native.Mathlib.Omega.{arith}
 use lib.IntN.{ℤ, pos, negsuc, negℤ, natAbs}
 use lib.ListN.{length}
-use Rattle.base.specs.Answer.{noSentence, Reply, Answers}
+use Rattle.base.specs.Answer.{noSentence, Reply, fitted, Answers}
 use Rattle.base.specs.Claim.{Inverse}
 use Rattle.base.specs.Join.{joined}
 use Rattle.base.specs.Reading.{Reading, Replies, earlier, sentence, otherwise, Reads}
@@ -16,15 +16,17 @@ use Rattle.base.proofs.Closing as closing
 use Rattle.settings.specs.declared.Settings.{Settings}
 use Rattle.figures.specs.Text.{value, negative, unsigned, wellFormed}
 use Rattle.figures.specs.Refusals.{ukrainianDigitLimit, ordinalRefusals, yearRefusals, Admitted}
+use Rattle.figures.specs.Written.{signedDecimal}
 use Rattle.figures.specs.Year.{yearOf, yearLimit, Signed64}
 use Rattle.figures.proofs.Laws.Refusals.{passed, passed-held}
+use Rattle.figures.proofs.Laws.Sign.{number-text}
 use Rattle.uk_ordinal.specs.Ordinal.{ordinalWords}
 use Rattle.uk_ordinal.specs.Year.{yearWords}
 use Rattle.uk_ordinal_read.specs.Guess.{ordinalNumber}
 use Rattle.uk_ordinal_read.specs.Promise.{signedYear, SaysYear}
 use Rattle.uk_ordinal_read.proofs.Guessed.{ordinal-guessed}
 use Rattle.uk_ordinal_calls.specs.UkOrdinals.{ukToOrdinal, ukToYear, yearText, ukFromOrdinal, ukFromYear}
-use Rattle.uk_ordinal_calls.proofs.Spelled.{read-settings, read-school, behind, ordinal-texts, year-fine, yearNumber, yearSign, found-year, year-texts, by-spelling}
+use Rattle.uk_ordinal_calls.proofs.Spelled.{read-settings, read-school, behind, ordinal-texts, year-fine, year-admitted, year-bounded, yearNumber, yearSign, found-year, year-texts, by-spelling}
 
 pub ordinals : (S : Settings) → ukFromOrdinal S .refusal ≡ 0 → Inverse (λ (t : List ℕ). Admitted (ordinalRefusals ukrainianDigitLimit t)) (ukToOrdinal S) (ukFromOrdinal S)
 ordinals S v =
@@ -61,6 +63,17 @@ one-year S v y z h k e =
     let sign : isNegative y ≡ isNegative z = sym (p .0) ∙ ap (yearSign S v) e ∙ q .0 in
     let size : natAbs y ≡ natAbs z = sym (p .1) ∙ ap (yearNumber S v) e ∙ q .1 in
     sym (year-is y) ∙ rw (sign, size) refl ∙ year-is z
+
+-- "and reading finds it": the answer to the phrase of a year is the number text of that year
+pub year-read-back : (S : Settings) → ukFromYear S .refusal ≡ 0 → (y : ℤ) → Signed64 y → {r : Answer} {xs ys : List ℕ} → Reads (ukFromYear S) (ukToYear S y .phrase) r xs ys
+    → (t : List ℕ) × Admitted (yearRefusals t) × (yearOf t ≡ y) × Answers r xs ys (fitted xs t)
+year-read-back S v y h {r} {xs} {ys} p =
+    let w = year-says S y h in
+    let t = signedDecimal (isNegative y) (natAbs y) in
+    let x = number-text (isNegative y) (natAbs y) (year-bounded S (ukToYear S y .phrase) .small w) (λ e. year-bounded S (ukToYear S y .phrase) .some (rw e at w)) in
+    let a = year-admitted x (w .held) in
+    let e : yearOf t ≡ y = rw (x .sign, x .means) (year-is y) in
+    (t, a, e, years S v .readAs t a (subst (λ (z : ℤ). Reads (ukFromYear S) (ukToYear S z .phrase) r xs ys) (sym e) p))
 
 -- "a phrase that style 1 spells under those settings for no number is 6": of any kind that is read by spelling
 six : (R : Reading) {s : List ℕ} {r : Answer} {xs ys : List ℕ} → R .refusal ≡ 0 → ((t : List ℕ) → R .Means s t → ⊥) → Reads R s r xs ys → r .number ≡ noSentence

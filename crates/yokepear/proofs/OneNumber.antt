@@ -5,14 +5,14 @@ use Prim.Native.Nat.{ℕ, _^_, _<_}
 use mathlib.Core.Path.{_≡_}
 use mathlib.Core.List.{List}
 use lib.IntN.{ℤ}
-use Rattle.base.specs.Answer.{noSentence}
+use Rattle.base.specs.Answer.{noSentence, fitted, Answers}
 use Rattle.base.specs.Join.{joined}
 use Rattle.base.specs.Reading.{Reads}
 use Rattle.base.specs.declared.Answer.{Answer}
 use Rattle.settings.specs.Settings.{schoolStyle, ukrainianSettings}
 use Rattle.settings.specs.declared.Settings.{Settings}
-use Rattle.figures.specs.Refusals.{ukrainianDigitLimit}
-use Rattle.figures.specs.Year.{Signed64}
+use Rattle.figures.specs.Refusals.{ukrainianDigitLimit, yearRefusals, Admitted}
+use Rattle.figures.specs.Year.{yearOf, Signed64}
 use Rattle.uk_ordinal.specs.Ordinal.{ordinalWords}
 use Rattle.uk_ordinal_calls.proofs.Theorem as uk-ordinal-theorem
 use Rattle.yokepear.specs.Calls.{toYear, spellingOf, fromOrdinal, fromYear, readingOf}
@@ -35,6 +35,12 @@ module _ (gender number case apostrophe : ℕ) where
     pub one-year : (y z : ℤ) → Signed64 y → Signed64 z
         → spellingOf (toYear gender number case apostrophe schoolStyle y) .phrase ≡ spellingOf (toYear gender number case apostrophe schoolStyle z) .phrase → y ≡ z
     one-year = uk-ordinal-theorem.one-year S valid
+
+    -- a year is read back as its text
+    pub year-read-back : (y : ℤ) → Signed64 y → {xs ys : List ℕ} {r : Answer}
+        → Reads (readingOf (fromYear gender number case apostrophe schoolStyle)) (spellingOf (toYear gender number case apostrophe schoolStyle y) .phrase) r xs ys
+        → (t : List ℕ) × Admitted (yearRefusals t) × (yearOf t ≡ y) × Answers r xs ys (fitted xs t)
+    year-read-back y h p = uk-ordinal-theorem.year-read-back S valid y h p
 
     pub unspelled-year-six : {s xs ys : List ℕ} {r : Answer} → ((y : ℤ) → Signed64 y → spellingOf (toYear gender number case apostrophe schoolStyle y) .phrase ≡ s → ⊥)
         → Reads (readingOf (fromYear gender number case apostrophe schoolStyle)) s r xs ys → r .number ≡ noSentence
