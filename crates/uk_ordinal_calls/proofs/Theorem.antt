@@ -46,10 +46,10 @@ isNegative : ℤ → Bool
 isNegative (pos n) = false
 isNegative (negsuc n) = true
 
-year-is : (y : ℤ) → signedYear (isNegative y) (natAbs y) ≡ y
+year-again : (y : ℤ) → signedYear (isNegative y) (natAbs y) ≡ y
 unfolding isNegative
-year-is (pos n) = refl
-year-is (negsuc n) = refl
+year-again (pos n) = refl
+year-again (negsuc n) = refl
 
 year-says : (S : Settings) (y : ℤ) → Signed64 y → SaysYear S (ukToYear S y .phrase) (isNegative y) (natAbs y)
 unfolding isNegative
@@ -62,7 +62,7 @@ one-year S v y z h k e =
     let q = found-year S v (ukToYear S z .phrase) (isNegative z) (natAbs z) (year-says S z k) in
     let sign : isNegative y ≡ isNegative z = sym (p .0) ∙ ap (yearSign S v) e ∙ q .0 in
     let size : natAbs y ≡ natAbs z = sym (p .1) ∙ ap (yearNumber S v) e ∙ q .1 in
-    sym (year-is y) ∙ rw (sign, size) refl ∙ year-is z
+    sym (year-again y) ∙ rw (sign, size) refl ∙ year-again z
 
 -- "and reading finds it": the answer to the phrase of a year is the number text of that year
 pub year-read-back : (S : Settings) → ukFromYear S .refusal ≡ 0 → (y : ℤ) → Signed64 y → {r : Answer} {xs ys : List ℕ} → Reads (ukFromYear S) (ukToYear S y .phrase) r xs ys
@@ -72,7 +72,7 @@ year-read-back S v y h {r} {xs} {ys} p =
     let t = signedDecimal (isNegative y) (natAbs y) in
     let x = number-text (isNegative y) (natAbs y) (year-bounded S (ukToYear S y .phrase) .small w) (λ e. year-bounded S (ukToYear S y .phrase) .some (rw e at w)) in
     let a = year-admitted x (w .held) in
-    let e : yearOf t ≡ y = rw (x .sign, x .means) (year-is y) in
+    let e : yearOf t ≡ y = rw (x .sign, x .means) (year-again y) in
     (t, a, e, years S v .readAs t a (subst (λ (z : ℤ). Reads (ukFromYear S) (ukToYear S z .phrase) r xs ys) (sym e) p))
 
 -- "a phrase that style 1 spells under those settings for no number is 6": of any kind that is read by spelling

@@ -23,7 +23,7 @@ use Rattle.uk_ordinal.specs.Ordinal.{flexion}
 use Rattle.uk_ordinal_plan.specs.Groups.{Groups22}
 use Rattle.uk_ordinal_read.specs.LastWord.{lastWord, beforeLast, without, stemOrder, stemValue}
 use Rattle.uk_ordinal_read.specs.Guess.{added, stemOf, ordinalGroups}
-use Rattle.uk_ordinal_read.proofs.Counting.{Means}
+use Rattle.uk_ordinal_read.proofs.CountLaws.{Means}
 
 -- 22 groups, as the planners take them
 pub groups-22 : (gs : List ℕ) → length gs ≡ 22 → Groups gs → Groups22 gs

@@ -13,7 +13,7 @@ use Rattle.tables.proofs.Tests.{clash}
 use Rattle.uk_ordinal_read.specs.LastWord.{spaced, lastWord, beforeLast}
 
 -- a space at a place
-spaced-at : (s : List ℕ) (i : ℕ) → i < length s → getD s i 0 ≡ 32 → spaced s ≡ true
+pub spaced-at : (s : List ℕ) (i : ℕ) → i < length s → getD s i 0 ≡ 32 → spaced s ≡ true
 spaced-at [] i h e = absurd (omega arith)
 spaced-at (b ∷ s) zero h e = rw (eq-eqb b 32 e) refl
 spaced-at (b ∷ s) (suc i) h e = rw (spaced-at s i (omega arith) e) (or-true (eqb b 32))

@@ -2,14 +2,14 @@
 -- Assumes nothing.
 use Prim.Native.Nat.{ℕ, zero, suc, _+_, _-_, _*_, _/_, _%_, _^_, _<_, _≤_}
 use mathlib.Core.Path.{_≡_, refl, sym, ap, _∙_, subst}
-use mathlib.Core.Bool.{Bool, true, false, cond, not, _||_}
+use mathlib.Core.Bool.{Bool, true, false, cond, not}
 use mathlib.Core.List.{List, [], _∷_, _++_, append-assoc, append-nil}
 use native.Mathlib.Nat.{pow-succ', mod-eq-of-lt, mul-left-comm}
 use native.Mathlib.Omega.{arith}
 use borrow.Author.Tests.{eqb-true, not-true}
 use lib.Dec.{eqb}
 use lib.ListN.{length, take, getD, set, length-append}
-use lib.Seq.{getD-append-add}
+use lib.Seq.{getD-append-seam, getD-append-add}
 use Rattle.base.specs.Join.{Word, spacedBy, joined}
 use Rattle.base.specs.Signs.{space, point}
 use Rattle.base.specs.Utf8.{utf8, form2}
@@ -32,17 +32,12 @@ use Rattle.uk_ordinal.specs.Year.{eraWords, yearNoun}
 use Rattle.uk_ordinal_read.specs.LastWord.{spaced, lastWord, beforeLast, without, stemOrder, stemValue}
 use Rattle.uk_ordinal_read.specs.Guess.{added, stemOf, ordinalGroups, ordinalNumber, seemsEarly, yearOrdinal}
 use Rattle.uk_ordinal_read.proofs.Stems.{without-end}
-use Rattle.uk_ordinal_read.proofs.Ends.{all-last}
+use Rattle.uk_ordinal_read.proofs.Ends.{spaced-at, all-last}
 use Rattle.uk_ordinal_read.proofs.Parts.{Parts, ordinal-parts}
 
 -- the last word of a text, and what stands before it
 spaced-more : (x w : List ℕ) → spaced (x ++ (space ∷ w)) ≡ true
-spaced-more [] w = refl
-spaced-more (b ∷ x) w = rw (spaced-more x w) (either-way (eqb b space))
-  where
-    either-way : (t : Bool) → (t || true) ≡ true
-    either-way true = refl
-    either-way false = refl
+spaced-more x w = spaced-at (x ++ (space ∷ w)) (length x) (omega (arith, length-append x (space ∷ w))) (getD-append-seam x space w 0)
 
 last-behind : (x w : List ℕ) → spaced w ≡ false → (lastWord (x ++ (space ∷ w)) ≡ w) × (beforeLast (x ++ (space ∷ w)) ≡ x)
 unfolding lastWord beforeLast

@@ -3,7 +3,7 @@ pub mod Compounds
 pub mod LastWords
 pub mod Parts
 pub mod Guessed
-pub mod Counting
+pub mod CountLaws
 pub mod Ends
 pub mod Years
 pub mod Adding

@@ -34,14 +34,14 @@ module _ (L : Lexicon) (n x : ℕ) (whole : n % 1000 ≡ 0) (small : x < 1000) w
       let e : (n + x) / (1000 * p) ≡ n / (1000 * p) = sym (div-div-eq-div-mul (n + x) 1000 p) ∙ ap (λ (i : ℕ). i / p) a ∙ div-div-eq-div-mul n 1000 p in
       rw (pow-succ' 1000 k, e) refl
 
-  pub groups-more : (k : ℕ) → groupsBelow L (suc k) (n + x) ≡ groupsBelow L (suc k) n ++ groupOf L 0 x
+  pub three-more : (k : ℕ) → groupsBelow L (suc k) (n + x) ≡ groupsBelow L (suc k) n ++ groupOf L 0 x
   unfolding groupsBelow
-  groups-more zero =
+  three-more zero =
       let a : (n + x) / 1 % 1000 ≡ x = omega (arith, div-one (n + x)) in
       let b : n / 1 % 1000 ≡ 0 = omega (arith, div-one n) in
       rw (a, b) (append-nil (groupOf L 0 x))
-  groups-more (suc k) =
-      rw (same-above k, groups-more k) (sym (append-assoc (groupOf L (suc k) (groupAt (suc k) n)) (groupsBelow L (suc k) n) (groupOf L 0 x)))
+  three-more (suc k) =
+      rw (same-above k, three-more k) (sym (append-assoc (groupOf L (suc k) (groupAt (suc k) n)) (groupsBelow L (suc k) n) (groupOf L 0 x)))
 
 -- the words of a group of hundreds and tens
 module _ (S : Settings) where
@@ -102,7 +102,7 @@ module _ (S : Settings) (w : Within (ukrainianRanges S)) (isSchool : school S �
         let H = opt (ukrainianDigits (inNominative S) .hundred) h in
         let T = opt (ukrainianDigits (inNominative S) .ten) t in
         let q : groupsBelow L 22 A ++ (H ++ (T ++ (last ∷ []))) ≡ groupsBelow L 22 (A + x) ++ (last ∷ []) =
-        rw (groups-more L A x z (omega arith) 21, round-group (inNominative S) h t a b c)
+        rw (three-more L A x z (omega arith) 21, round-group (inNominative S) h t a b c)
         (ap (λ (ws : List Word). groupsBelow L 22 A ++ ws) (sym (append-assoc H T (last ∷ []))) ∙ sym (append-assoc (groupsBelow L 22 A) (H ++ T) (last ∷ []))) in
         record {
           front = A + x;

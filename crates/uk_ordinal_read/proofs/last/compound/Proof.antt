@@ -7,7 +7,7 @@ use Rattle.plan.proofs.Laws.{from, from-is}
 use Rattle.tokens.specs.Tokens.{firstWord, key}
 use Rattle.uk_ordinal_meanings.specs.Meanings.{meaningOf}
 use Rattle.uk_ordinal_read.specs.LastWord.{uncounted, stemMeans}
-use Rattle.uk_ordinal_read.proofs.Counting.{compound-one, compound-counted}
+use Rattle.uk_ordinal_read.proofs.CountLaws.{compound-one, compound-counted}
 use Rattle.uk_ordinal_read.proofs.last.compound.Statement.{statement}
 use Rattle.uk_ordinal_read.proofs.last.compound.Tie as tie
 

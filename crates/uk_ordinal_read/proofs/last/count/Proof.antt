@@ -8,7 +8,7 @@ use lib.ListN.{length, drop}
 use Rattle.plan.proofs.Laws.{from, from-is, from-length}
 use Rattle.uk_counts.specs.Counts.{countOf}
 use Rattle.uk_ordinal_read.specs.LastWord.{grown, counted, uncounted}
-use Rattle.uk_ordinal_read.proofs.Counting.{ends, goes-on, ended}
+use Rattle.uk_ordinal_read.proofs.CountLaws.{ends, goes-on, ended}
 use Rattle.uk_ordinal_read.proofs.last.count.Statement.{statement}
 use Rattle.uk_ordinal_read.proofs.last.count.Tie as tie
 

@@ -1,7 +1,7 @@
 -- `uk_ordinal_read::last::grown` meets its contract.
 -- Assumes nothing.
 use borrow.Author.Needs.{needs}
-use Rattle.uk_ordinal_read.proofs.Counting.{grown-hundreds, grown-other}
+use Rattle.uk_ordinal_read.proofs.CountLaws.{grown-hundreds, grown-other}
 use Rattle.uk_ordinal_read.proofs.last.grown.Statement.{statement}
 use Rattle.uk_ordinal_read.proofs.last.grown.Tie as tie
 

@@ -9,7 +9,7 @@ use borrow.Author.Tests.{eq-eqb, ne-eqb}
 use lib.ListN.{length, getD}
 use Rattle.uk_ordinal_meanings.specs.Meanings.{meaningOf}
 use Rattle.uk_ordinal_read.specs.LastWord.{compound}
-use Rattle.uk_ordinal_read.proofs.Counting.{plain-stem, empty-plain}
+use Rattle.uk_ordinal_read.proofs.CountLaws.{plain-stem, empty-plain}
 use Rattle.uk_ordinal_read.proofs.last.last.Statement.{statement}
 use Rattle.uk_ordinal_read.proofs.last.last.Tie as tie
 
