@@ -21,6 +21,7 @@ mod school;
 mod inputs;
 mod subjects;
 mod table;
+mod tally;
 mod times;
 
 use inputs::{Figures, Input};
@@ -50,18 +51,29 @@ fn main() {
     let arguments: Vec<String> = std::env::args().skip(1).collect();
     let arguments: Vec<&str> = arguments.iter().map(String::as_str).collect();
     match arguments.as_slice() {
-        ["count"] => cases().iter().for_each(count),
-        ["table"] => table::print(&cases(), &[]),
+        ["count"] => {
+            cases().iter().for_each(count);
+            tally::count();
+        }
+        ["table"] => print(&[]),
         ["table", counts] => {
             let counts = std::fs::read_to_string(counts).expect("the counts can be read");
             let counts: Vec<u64> = counts.lines().filter_map(|line| line.parse().ok()).collect();
-            table::print(&cases(), &counts);
+            print(&counts);
         }
         _ => {
             eprintln!("usage: bench count | bench table [COUNTS]");
             std::process::exit(2);
         }
     }
+}
+
+/// The table, and that of tallies, whose counts come last.
+fn print(counts: &[u64]) {
+    let cases = cases();
+    let (own, of_tallies) = counts.split_at(counts.len().min(table::PASSES * cases.len()));
+    table::print(&cases, own);
+    tally::print(of_tallies);
 }
 
 /// All cases of the calls, each checked against the Rust's phrases.

@@ -140,6 +140,77 @@ on_year!(three, plain_uk_to_year, c_call);
 on_text!(three, plain_fr_to_cardinal, text);
 on_text!(three, plain_fr_to_ordinal, text);
 
+#[repr(C)]
+struct Tallied {
+    refusal: u32,
+    item: u32,
+    length: usize,
+}
+
+impl Tallied {
+    /// The item number and the length; a refusal would make the measurement worthless.
+    fn item_and_length(self) -> (u32, usize) {
+        assert!(self.refusal == 0, "refused {}", self.refusal);
+        (self.item, self.length)
+    }
+}
+
+type Bytes = *const u8;
+type Lent = *mut u8;
+
+#[rustfmt::skip]
+extern "C" {
+    fn yokepear_tally_open(code: Bytes, k: usize, tally: Lent, size: usize) -> Answer;
+    fn yokepear_tally_add(a: u32, b: u32, c: u32, d: u32, e: u32, tally: Lent, size: usize,
+        text: Bytes, n: usize, out: Lent, room: usize) -> Tallied;
+    fn yokepear_tally_remove(a: u32, b: u32, c: u32, d: u32, e: u32, item: u32, tally: Lent,
+        size: usize, out: Lent, room: usize) -> Tallied;
+}
+
+const TALLY_SIZE: usize = 837;
+
+/// A tally. Adding and removing take the settings of an input, and write into the buffer.
+pub struct Tally([u8; TALLY_SIZE]);
+
+impl Tally {
+    /// A tally of these amounts.
+    pub fn of(code: &str, amounts: &[Vec<u8>]) -> Self {
+        let mut tally = Tally([0; TALLY_SIZE]);
+        let opened = unsafe {
+            yokepear_tally_open(code.as_ptr(), code.len(), tally.0.as_mut_ptr(), TALLY_SIZE)
+        };
+        assert!(opened.length() == TALLY_SIZE, "a tally has another size");
+        let mut out = [0; 1024];
+        for text in amounts {
+            tally.add_text([0; 5], text, &mut out);
+        }
+        tally
+    }
+
+    fn add_text(&mut self, [a, b, c, d, e]: [u32; 5], text: &[u8], out: &mut [u8]) -> (u32, usize) {
+        let tally = self.0.as_mut_ptr();
+        let (text, n) = (text.as_ptr(), text.len());
+        let (out, room) = (out.as_mut_ptr(), out.len());
+        unsafe { yokepear_tally_add(a, b, c, d, e, tally, TALLY_SIZE, text, n, out, room) }
+            .item_and_length()
+    }
+
+    /// The item number of the input's text, and the length of the total's phrase.
+    pub fn add(&mut self, input: &Input, out: &mut [u8]) -> (u32, usize) {
+        self.add_text(input.manner.settings, &input.text, out)
+    }
+
+    /// The length of the total's phrase.
+    pub fn remove(&mut self, item: u32, input: &Input, out: &mut [u8]) -> usize {
+        let [a, b, c, d, e] = input.manner.settings;
+        let tally = self.0.as_mut_ptr();
+        let (out, room) = (out.as_mut_ptr(), out.len());
+        unsafe { yokepear_tally_remove(a, b, c, d, e, item, tally, TALLY_SIZE, out, room) }
+            .item_and_length()
+            .1
+    }
+}
+
 /// The library's spelling call.
 pub fn spelling(kind: Kind) -> Subject {
     match kind {

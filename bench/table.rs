@@ -31,7 +31,7 @@ const HEADINGS: [&str; 11] = [
 ];
 
 /// How many passes callgrind counts for a case.
-const PASSES: usize = 2;
+pub const PASSES: usize = 2;
 
 /// The counts are callgrind's, in the order of the passes; without them, columns stay empty.
 pub fn print(cases: &[Case], counts: &[u64]) {
@@ -90,7 +90,7 @@ fn add(a: Measured, b: Measured) -> Measured {
 }
 
 /// A quotient, or a dash where one side was not measured.
-fn ratio(a: f64, b: f64) -> String {
+pub fn ratio(a: f64, b: f64) -> String {
     if a == 0.0 || b == 0.0 {
         "-".to_string()
     } else {

@@ -23,33 +23,42 @@ pub struct Times {
     pub spelling: f64,
 }
 
-/// A subject with the best time so far.
-struct Timed {
+/// A subject with what it is given, and the best time so far.
+pub struct Timed<'a> {
+    inputs: &'a [Input],
     subject: Subject,
     passes: u32,
     best: f64,
 }
 
-impl Timed {
-    fn new(inputs: &[Input], subject: Subject) -> Self {
+impl<'a> Timed<'a> {
+    pub fn new(inputs: &'a [Input], subject: Subject) -> Self {
         let once = time(inputs, &subject, 3) / 3;
         let passes = (TURN.as_nanos() / once.as_nanos().max(1)).clamp(1, 10_000) as u32;
-        Timed { subject, passes, best: f64::INFINITY }
+        Timed { inputs, subject, passes, best: f64::INFINITY }
     }
 
-    fn turn(&mut self, inputs: &[Input]) {
-        let time = time(inputs, &self.subject, self.passes).as_nanos() as f64;
+    fn turn(&mut self) {
+        let time = time(self.inputs, &self.subject, self.passes).as_nanos() as f64;
         self.best = self.best.min(time / f64::from(self.passes));
     }
+}
+
+/// What a pass of each takes at best where these alone take turns.
+pub fn in_turns<const N: usize>(mut subjects: [Timed; N]) -> [f64; N] {
+    for _ in 0..SWEEPS * ROUNDS {
+        subjects.iter_mut().for_each(Timed::turn);
+    }
+    subjects.map(|subject| subject.best)
 }
 
 /// The times of each case.
 pub fn times(cases: &[Case]) -> Vec<Times> {
     let mut timed: Vec<Vec<Timed>> = cases.iter().map(subjects_of).collect();
     for _ in 0..SWEEPS {
-        for (case, subjects) in cases.iter().zip(&mut timed) {
+        for subjects in &mut timed {
             for _ in 0..ROUNDS {
-                subjects.iter_mut().for_each(|subject| subject.turn(&case.inputs));
+                subjects.iter_mut().for_each(Timed::turn);
             }
         }
     }
@@ -57,7 +66,7 @@ pub fn times(cases: &[Case]) -> Vec<Times> {
 }
 
 /// What takes turns in a case; `named` knows the order.
-fn subjects_of(case: &Case) -> Vec<Timed> {
+fn subjects_of(case: &Case) -> Vec<Timed<'_>> {
     let ours = library(case.kind, case.task).expect("a case has a call");
     let mut all = vec![ours, subjects::copy()];
     if case.task == Task::Spelling {

@@ -155,10 +155,6 @@ yokepear_answer ask(const struct request *r, uint8_t *out, size_t out_length) {
   return r->call->by_name(r, out, out_length);
 }
 
-/* The settings as numbers, in the order of a call's parameters. */
-#define IN_UK(s) s[0], s[1], s[2], s[3], s[4]
-#define IN_FR(s) s[0], s[1], s[2]
-
 yokepear_answer ask_by_number(const struct request *r, uint8_t *out, size_t out_length) {
   struct call *call = r->call;
   const uint32_t *s = r->settings.numbers;

@@ -31,6 +31,10 @@ struct request {
 /* The Ukrainian settings as numbers. */
 #define UK_NUMBERS uint32_t, uint32_t, uint32_t, uint32_t, uint32_t
 
+/* An array of settings as a call's parameters, in their order. */
+#define IN_UK(s) s[0], s[1], s[2], s[3], s[4]
+#define IN_FR(s) s[0], s[1], s[2]
+
 typedef yokepear_answer uk_text_call(UK_NUMBERS, const void *, size_t, void *, size_t);
 typedef yokepear_answer uk_money_call(UK_NUMBERS, const void *, size_t, const void *, size_t,
                                       void *, size_t);

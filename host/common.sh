@@ -11,5 +11,11 @@ mkdir -p "$build"
 warnings=(-Wall -Wextra -Wpedantic -Werror)
 compile=("${CC:-gcc}" -std=c99 -O2 "${warnings[@]}" "-I$include")
 
-# The calls that the header declares, in its order.
+# The calls that the header declares, in its order; and those of them that take settings.
 declared_calls() { sed -n 's/^[a-z0-9_]* \(yokepear_[a-z_]*\)(.*/\1/p' "$include/yokepear.h"; }
+calls_with_settings() {
+  sed -n '/^[a-z0-9_]* yokepear_[a-z_]*(/ {
+    :more; /;$/! {N; b more}
+    /YOKEPEAR_.._NUMBERS_/ s/^[a-z0-9_]* \(yokepear_[a-z_]*\)(.*/\1/p
+  }' "$include/yokepear.h"
+}

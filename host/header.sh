@@ -77,6 +77,12 @@ settings_in_place() {
   only_swapped 'the settings of the other language, where a phrase is measured' \
     'yokepear_fr s = french; (void)yokepear_fr_measure_ordinal_in(s, "1", 1);' \
     'yokepear_fr s = french; (void)yokepear_uk_measure_ordinal_in(s, "1", 1);' "$@"
+  only_swapped 'French settings of a total' \
+    'yokepear_uk s = made; (void)yokepear_tally_remove_in(s, 1, 0, 0, 0, 0);' \
+    'yokepear_fr s = french; (void)yokepear_tally_remove_in(s, 1, 0, 0, 0, 0);' "$@"
+  only_swapped 'a tally that cannot be changed' \
+    'static char t[1]; (void)yokepear_tally_open("", 0, t, 1);' \
+    'static const char t[1] = {0}; (void)yokepear_tally_open("", 0, t, 1);' "$@"
 }
 # The usual warnings tell it.
 for compiler in "${c_compilers[@]}"; do
@@ -97,9 +103,10 @@ same() {
   exit 1
 }
 declared=$(declared_calls | sort)
+with_settings=$(calls_with_settings | sort)
 by_name=$(sed -n 's/^static inline [a-z0-9_]* \(yokepear_[a-z_]*\)_in(.*/\1/p' "$header" | sort)
 exported=$(nm --defined-only "$archive" | awk '$2 == "T" {print $3}' | sort)
 same 'the header and the archive have other calls (< header, > archive)' "$declared" "$exported"
-same 'other calls take settings by name (< all calls, > by name)' "$declared" "$by_name"
+same 'other calls take settings by name (< as numbers, > by name)' "$with_settings" "$by_name"
 echo "header: ${c_compilers[*]} ${cpp_compilers[*]} without a warning, settings keep their" \
   "places, $(wc -l <<< "$declared") calls as in the archive"

@@ -1,20 +1,14 @@
-/*
- * The deepest stack use of each call: it runs on a painted stack, and what was painted over is
- * looked for afterwards. Counted from the call's return address downwards, memcpy included.
- */
-#define _DEFAULT_SOURCE
+/* The deepest stack use of each call. */
 #include <stdio.h>
 #include <stdlib.h>
 #include <string.h>
-#include <ucontext.h>
 
 #include "ask.h"
+#include "paint.h"
 
-/* The stack is painted and searched for each request, so it is not much larger than calls need. */
-enum { STACK = 1 << 17, LARGE = 4000, LONG = 64 * 1024, ADDRESS = sizeof(void *) };
+enum { LARGE = 4000, LONG = 64 * 1024 };
 
-static uint8_t stack[STACK], out[LARGE], words[LONG];
-static ucontext_t here, there;
+static uint8_t out[LARGE], words[LONG];
 static const struct request *asking;
 static size_t out_length;
 static yokepear_answer answer;
@@ -27,35 +21,11 @@ static void measure_it(void) { measured = measure_by_number(asking); }
 /* Which of them runs. */
 static void (*run)(void) = ask_it;
 
-/* Runs the request on a stack painted with this byte; how many bytes were in use. */
-static size_t painted(const struct request *r, uint8_t paint) {
-  memset(stack, paint, STACK);
-  getcontext(&there);
-  there.uc_stack.ss_sp = stack;
-  there.uc_stack.ss_size = STACK;
-  there.uc_link = &here;
-  makecontext(&there, run, 0);
-  asking = r;
-  swapcontext(&here, &there);
-  size_t low = 0;
-  while (low < STACK && stack[low] == paint) low++;
-  if (low) return STACK - low;
-  fprintf(stderr, "yokepear_%s: more than %d bytes of stack\n", r->call->name, STACK);
-  exit(1);
-}
-
-/* A byte that happens to be the paint is seen with the other paint. */
 static size_t used(const struct request *r, size_t room) {
+  asking = r;
   out_length = room;
-  size_t first = painted(r, 0xa5), second = painted(r, 0x5a);
-  return first > second ? first : second;
+  return stack_used(run, r->call->name);
 }
-
-/* Settings that are taken and not looked at. */
-#define FR_UNUSED uint32_t a, uint32_t b, uint32_t c
-#define UK_UNUSED FR_UNUSED, uint32_t d, uint32_t e
-#define IGNORE_FR (void)a, (void)b, (void)c
-#define IGNORE_UK IGNORE_FR, (void)d, (void)e
 
 /* Calls that do nothing: what asking itself takes. */
 static yokepear_answer no_uk_text(UK_UNUSED, const void *s, size_t n, void *o, size_t room) {
@@ -114,8 +84,6 @@ static size_t asking_alone(const struct call *call) {
   r.call = &nothing;
   return used(&r, 0) - ADDRESS;
 }
-
-static size_t deeper(size_t a, size_t b) { return a > b ? a : b; }
 
 /* The request with room and without; a measuring call has none. */
 static size_t with_rooms(struct request r) {
@@ -213,6 +181,7 @@ int main(int argc, char **argv) {
     most = deeper(most, show_deepest(call, ask_it, call->name));
     if (!call->reading) most = deeper(most, show_deepest(call, measure_it, call->measuring.name));
   }
+  most = deeper(most, show_tallies());
   printf("deepest: %zu bytes of stack\n", most);
   return most < limit ? 0 : 1;
 }

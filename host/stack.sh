@@ -3,5 +3,6 @@
 set -euo pipefail
 . "$(dirname "${BASH_SOURCE[0]}")/common.sh"
 # Bound at the start: a first call to memcpy must not be counted with the linker's own stack.
-"${compile[@]}" -Wl,-z,now "$host/stack.c" "$host/ask.c" "$archive" -o "$build/stack"
+sources=(stack.c stack_tally.c paint.c ask.c sheet.c)
+"${compile[@]}" -Wl,-z,now "${sources[@]/#/$host/}" "$archive" -o "$build/stack"
 "$build/stack" "$@"

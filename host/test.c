@@ -2,6 +2,7 @@
 #include <stdio.h>
 
 #include "expect.h"
+#include "tally.h"
 #include "tests.h"
 
 static void show_counts(const char *name, const struct counts *done) {
@@ -25,6 +26,7 @@ int main(int argc, char **argv) {
   test_ordinal_damage();
   test_measures();
   test_sizes();
+  test_tally();
   size_t measuring = 0;
   for (size_t i = 0; i < call_count; i++) {
     show_counts(calls[i].name, &calls[i].done);
@@ -32,6 +34,7 @@ int main(int argc, char **argv) {
     show_counts(calls[i].measuring.name, &calls[i].measuring.done);
     measuring++;
   }
-  printf("%zu calls as expected\n", call_count + measuring);
+  for (size_t i = 0; i < TALLY_CALLS; i++) show_counts(tally_calls[i].name, &tally_calls[i].done);
+  printf("%zu calls as expected\n", call_count + measuring + TALLY_CALLS);
   return 0;
 }

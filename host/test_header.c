@@ -50,12 +50,12 @@ static void stop(const char *what, unsigned refusal) {
   exit(1);
 }
 
-enum { LONGEST_SENTENCE = 60, LONGEST_VERSION = 40 };
+enum { LAST_REFUSAL = YOKEPEAR_NOT_HELD, LONGEST_SENTENCE = 60, LONGEST_VERSION = 40 };
 
 /* Each refusal has a sentence of its own that a log can take; all other numbers have one. */
 static void test_sentences(void) {
   const char *none = yokepear_refusal_text(UINT32_MAX);
-  for (uint32_t refusal = YOKEPEAR_DONE; refusal <= YOKEPEAR_SHORT_BUFFER; refusal++) {
+  for (uint32_t refusal = YOKEPEAR_DONE; refusal <= LAST_REFUSAL; refusal++) {
     const char *sentence = yokepear_refusal_text(refusal);
     if (!*sentence || strlen(sentence) > LONGEST_SENTENCE) stop("empty or long", refusal);
     for (const char *at = sentence; *at; at++)
@@ -64,8 +64,8 @@ static void test_sentences(void) {
     for (uint32_t other = 0; other < refusal; other++)
       if (!strcmp(sentence, yokepear_refusal_text(other))) stop("that of another", refusal);
   }
-  if (strcmp(yokepear_refusal_text(YOKEPEAR_SHORT_BUFFER + 1), none))
-    stop("not that of an unknown number", YOKEPEAR_SHORT_BUFFER + 1);
+  if (strcmp(yokepear_refusal_text(LAST_REFUSAL + 1), none))
+    stop("not that of an unknown number", LAST_REFUSAL + 1);
 }
 
 static void test_version(void) {

@@ -32,4 +32,13 @@ void test_measures(void);
 /* The header's sizes, by the longest phrase and the longest text of each kind. */
 void test_sizes(void);
 
+/* Tallies: by hand, then in the two ways below. */
+void test_tally(void);
+
+/* Long lists of calls at random, held to a sheet on which they are written down. */
+void test_tally_lists(void);
+
+/* Bytes that no call made, given as a tally. */
+void test_tally_bytes(void);
+
 #endif

@@ -3,7 +3,8 @@
  * SPDX-License-Identifier: MIT OR Apache-2.0
  *
  * Link with libyokepear.a (x86-64 Linux today). No heap, no initialisation, no state: calls may run
- * at the same time in any threads. Of a C library it needs at most memcpy and memset.
+ * at the same time in any threads, if not on the same tally. Of a C library it needs at most memcpy
+ * and memset.
  *
  *   Example (C99; in C++ settings are `= {}`, and their fields are set one by one):
  *     yokepear_uk feminine = {.gender = YOKEPEAR_FEMININE};
@@ -12,7 +13,7 @@
  *     if (a.refusal) puts(yokepear_refusal_text(a.refusal));
  *     else fwrite(out, 1, a.length, stdout);
  *
- * Two forms of each call
+ * Two forms of each call with settings
  *   yokepear_NAME takes its settings as numbers, at the front: that is the library's own call. In
  *   its declaration YOKEPEAR_UK_NUMBERS_ or YOKEPEAR_FR_NUMBERS_ stands for them, in their order.
  *   yokepear_NAME_in takes them as a struct, by name, and hands them on. Use it: settings that are
@@ -31,7 +32,7 @@
  * Buffers
  *   A call takes any bytes, any lengths and any setting numbers. It reads no byte past an input's
  *   length and writes none past the buffer's. A pointer may be null if its length is 0.
- *   No input may overlap the buffer `out`.
+ *   No input may overlap the buffer `out`, and a tally neither `out` nor an input.
  *   The answer stands at the front of `out`; the bytes after it are left as they were. A refusal
  *   changes nothing.
  *   A buffer of the YOKEPEAR_..._PHRASE or YOKEPEAR_..._TEXT bytes given with a call is always long
@@ -53,7 +54,7 @@ extern "C" {
 
 /* While the first is 0, a step of the second may add settings to calls that take numbers. */
 #define YOKEPEAR_VERSION_MAJOR 0
-#define YOKEPEAR_VERSION_MINOR 5
+#define YOKEPEAR_VERSION_MINOR 6
 #define YOKEPEAR_VERSION_PATCH 0
 
 #define YOKEPEAR_TEXT_OF_(number) #number
@@ -66,9 +67,9 @@ extern "C" {
 /* ---- Answers and refusals ------------------------------------------------------------------- */
 
 /*
- * What a spelling or a reading call answers. `refusal` is 0 and `length` the answer's length in
- * bytes; or `refusal` is the number of one and `length` is 0, except that YOKEPEAR_SHORT_BUFFER
- * comes with the length needed.
+ * What a spelling or a reading call answers, and yokepear_tally_open. `refusal` is 0 and `length`
+ * the answer's length in bytes; or `refusal` is the number of one and `length` is 0, except that
+ * YOKEPEAR_SHORT_BUFFER comes with the length needed.
  */
 typedef struct {
   uint32_t refusal;
@@ -90,19 +91,36 @@ typedef struct {
 } yokepear_measure;
 
 /*
- * Refusals. Where several apply, the one with the lowest number is given.
- * Spelling never gives 6, measuring neither 6 nor 7; reading gives only 1, 2, 6 and 7.
+ * What adding to a tally and removing from it answer. `refusal` is 0, `item` the item number that
+ * was given, 0 from removing, and `length` the length in bytes of the new total's phrase; or
+ * `refusal` is the number of one and both are 0, except that YOKEPEAR_SHORT_BUFFER comes with the
+ * length needed.
+ */
+typedef struct {
+  uint32_t refusal;
+  uint32_t item;
+  size_t length;
+} yokepear_tallied;
+
+/*
+ * Refusals. Where several apply, the one with the lowest number is given, but 7 only where no other
+ * one applies: a buffer is looked at last.
+ * Spelling never gives 6, measuring neither 6 nor 7; reading gives only 1, 2, 6 and 7. 8 to 10 are
+ * of tallies alone.
  */
 enum {
   YOKEPEAR_DONE = 0,
   YOKEPEAR_BAD_SETTING = 1,    /* a setting outside its range, even one of no effect here, or an
                                   ordinal style that is not read */
-  YOKEPEAR_BAD_CODE = 2,       /* not one of the currency codes */
+  YOKEPEAR_BAD_CODE = 2,       /* not one of the currency codes, or bytes that are no tally */
   YOKEPEAR_BAD_TEXT = 3,       /* a malformed number text */
   YOKEPEAR_NEGATIVE = 4,       /* a negative ordinal, digit ordinal or amount */
   YOKEPEAR_TOO_LARGE = 5,      /* a number above the call's limit */
   YOKEPEAR_NOT_A_SENTENCE = 6, /* a phrase that the spelling call does not say in these settings */
-  YOKEPEAR_SHORT_BUFFER = 7    /* out_length is below the answer's length, which is reported */
+  YOKEPEAR_SHORT_BUFFER = 7,   /* out_length is below the answer's length, which is reported */
+  YOKEPEAR_TALLY_FULL = 8,     /* 64 amounts are held, or the last item number has been given */
+  YOKEPEAR_SUM_TOO_LARGE = 9,  /* a total above the limit of money */
+  YOKEPEAR_NOT_HELD = 10       /* no amount is held under the item number */
 };
 
 /* A short sentence for the number of a refusal, for logs. */
@@ -110,12 +128,15 @@ static inline const char *yokepear_refusal_text(uint32_t refusal) {
   switch (refusal) {
     case YOKEPEAR_DONE: return "nothing is refused";
     case YOKEPEAR_BAD_SETTING: return "a setting number is outside its range";
-    case YOKEPEAR_BAD_CODE: return "the currency code is not a known one";
+    case YOKEPEAR_BAD_CODE: return "the currency code is not a known one, or this is no tally";
     case YOKEPEAR_BAD_TEXT: return "the number text is malformed";
     case YOKEPEAR_NEGATIVE: return "the number is negative";
     case YOKEPEAR_TOO_LARGE: return "the number is above the limit";
     case YOKEPEAR_NOT_A_SENTENCE: return "the phrase is not a sentence in these settings";
     case YOKEPEAR_SHORT_BUFFER: return "the buffer is shorter than the answer";
+    case YOKEPEAR_TALLY_FULL: return "the tally is full, or has given its last item number";
+    case YOKEPEAR_SUM_TOO_LARGE: return "the total would be above the limit";
+    case YOKEPEAR_NOT_HELD: return "no amount is held under this item number";
     default: return "no refusal has this number";
   }
 }
@@ -403,6 +424,57 @@ static inline yokepear_answer yokepear_uk_from_currency_in(
     const void *phrase, size_t phrase_length, void *out, size_t out_length) {
   return yokepear_uk_from_currency(YOKEPEAR_UK_(settings), code, code_length, phrase,
                                    phrase_length, out, out_length);
+}
+
+/* ---- Tallies -------------------------------------------------------------------------------- */
+
+#define YOKEPEAR_TALLY_SIZE 837
+
+/*
+ * A tally holds amounts of one currency, as a till does, in YOKEPEAR_TALLY_SIZE bytes of yours: at
+ * most 64 at a time, each under its own item number. Item numbers count up from 1 to 4294967295,
+ * and none is given twice; the place of a removed amount is filled again. The total is the sum of
+ * what was added and not removed; its whole part stays within 18446744073709551615.
+ * The bytes lie anywhere, have no pointers, and may be copied, stored and taken up again, also by
+ * another program with a library of this version. What each of them means is not for callers, who
+ * leave them to the calls: bytes that no call made are refused by 2, or taken for some tally.
+ *
+ * Opens: writes the empty tally of a currency, a code as of yokepear_uk_to_currency, to the front
+ * of `tally`. Its length is the answer's. Has no settings, and one form. Refuses by 2 and 7.
+ */
+yokepear_answer yokepear_tally_open(
+    const void *code, size_t code_length, void *tally, size_t tally_length);
+
+/*
+ * Adds the amount of a money text, which may be 0, and speaks the new total as
+ * yokepear_uk_to_currency does, in at most YOKEPEAR_UK_CURRENCY_PHRASE bytes. Reports the item
+ * number under which the amount is held. A refusal leaves the tally as it was too, and uses up no
+ * item number. Refuses by 1, 2 (of the tally), 3, 4, 5, 8, 9, 7, in this order.
+ */
+yokepear_tallied yokepear_tally_add(
+    YOKEPEAR_UK_NUMBERS_, void *tally, size_t tally_length,
+    const void *text, size_t text_length, void *out, size_t out_length);
+
+static inline yokepear_tallied yokepear_tally_add_in(
+    yokepear_uk settings, void *tally, size_t tally_length,
+    const void *text, size_t text_length, void *out, size_t out_length) {
+  return yokepear_tally_add(YOKEPEAR_UK_(settings), tally, tally_length, text, text_length, out,
+                            out_length);
+}
+
+/*
+ * Removes the amount under an item number and speaks the new total, in the same way: `нуль гривень`
+ * where nothing is left. A refusal leaves the tally as it was. Refuses by 1, 2 (of the tally), 10,
+ * 7, in this order; and of bytes that no call made by 9 before 7.
+ */
+yokepear_tallied yokepear_tally_remove(
+    YOKEPEAR_UK_NUMBERS_, uint32_t item, void *tally, size_t tally_length,
+    void *out, size_t out_length);
+
+static inline yokepear_tallied yokepear_tally_remove_in(
+    yokepear_uk settings, uint32_t item, void *tally, size_t tally_length,
+    void *out, size_t out_length) {
+  return yokepear_tally_remove(YOKEPEAR_UK_(settings), item, tally, tally_length, out, out_length);
 }
 
 /* ---- French cardinals ---------------------------------------------------------------------- */

@@ -10,7 +10,7 @@ use Rattle.base.specs.Buffer.{over}
 use Rattle.base.specs.declared.Answer.{Answer}
 
 -- the numbers of 01's table, downwards: a setting outside its range, no code, a malformed text, a sign that is refused, a size above its limit, no
--- sentence, a buffer that is shorter than the answer
+-- sentence, a buffer that is shorter than the answer; and those of 02 (W4): a tally that is full, a sum above the money limit, no amount under an item number
 abbrev pub wrongSetting : ℕ
 wrongSetting = 1
 
@@ -31,6 +31,15 @@ noSentence = 6
 
 abbrev pub noRoom : ℕ
 noRoom = 7
+
+abbrev pub tallyFull : ℕ
+tallyFull = 8
+
+abbrev pub sumTooLarge : ℕ
+sumTooLarge = 9
+
+abbrev pub notHeld : ℕ
+notHeld = 10
 
 -- conditions, each with its number: "the first that applies is given", 0 where none does
 abbrev pub firstOf : List (Bool × ℕ) → ℕ

@@ -1,4 +1,4 @@
--- Some bytes as one number, the first the lowest: how the code takes several at a time. No call's answer is defined by it.
+-- Some bytes as one number, the first the lowest: how the code takes several at a time, and how a tally's numbers lie.
 -- Assumes nothing.
 use Prim.Native.Nat.{ℕ, zero, suc, _+_, _*_, _/_, _%_, _<_}
 use mathlib.Core.List.{List, [], _∷_}

@@ -15,7 +15,7 @@ pub struct Answer {
     pub length: usize,
 }
 
-// The numbers of 01's table.
+// The numbers of 01's table, and those that 02 adds.
 pub const WRONG_SETTING: u32 = 1;
 
 pub const WRONG_CODE: u32 = 2;
@@ -29,6 +29,12 @@ pub const TOO_LARGE: u32 = 5;
 pub const NO_SENTENCE: u32 = 6;
 
 pub const NO_ROOM: u32 = 7;
+
+pub const TALLY_FULL: u32 = 8;
+
+pub const SUM_TOO_LARGE: u32 = 9;
+
+pub const NOT_HELD: u32 = 10;
 
 // The answer of a refusal that reports no length.
 pub fn refused(number: u32) -> Answer

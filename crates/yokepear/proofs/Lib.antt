@@ -4,3 +4,4 @@ pub mod Words
 pub mod Apostrophes
 pub mod Measuring
 pub mod OneNumber
+pub mod Tally

@@ -22,7 +22,8 @@ use Rattle.uk_ordinal.specs.Ordinal.{school}
 use Rattle.uk_ordinal_calls.specs.UkOrdinals.{readingRefusal}
 use Rattle.uk_money.specs.Currencies.{Currency}
 use Rattle.uk_money.specs.Codes.{currencyOf, unknown}
-use Rattle.yokepear.specs.Calls.{SpellingCall, spellingOf, readingOf, toCardinal, toOrdinal, toOrdinalNum, toYear, toCurrency, toFrenchCardinal, toFrenchOrdinal, ReadingCall, fromCardinal, fromOrdinal, fromYear, fromCurrency, fromFrenchCardinal, fromFrenchOrdinal, Called, bySpelling, byReading, OneOf}
+use Rattle.tally_calls.specs.TallyCalls.{emptyBytes, opening}
+use Rattle.yokepear.specs.Calls.{SpellingCall, spellingOf, readingOf, toCardinal, toOrdinal, toOrdinalNum, toYear, toCurrency, toFrenchCardinal, toFrenchOrdinal, ReadingCall, fromCardinal, fromOrdinal, fromYear, fromCurrency, fromFrenchCardinal, fromFrenchOrdinal, Called, bySpelling, byReading, byOpening, OneOf}
 
 -- what holds of 0 and the numbers of the conditions that a call names holds of its refusal; and if of 7 too, of the number that it answers with
 module _ (P : ℕ → Type 0) (none-is : P 0) (setting-is : P wrongSetting) where
@@ -38,7 +39,7 @@ module _ (P : ℕ → Type 0) (none-is : P 0) (setting-is : P wrongSetting) wher
       go true q = p .0
       go false q = q
 
-  settings-then : (rs : List (ℕ × ℕ)) (cs : List (Bool × ℕ)) → Each cs → P (firstOf (outOfRange rs ∷ cs))
+  pub settings-then : (rs : List (ℕ × ℕ)) (cs : List (Bool × ℕ)) → Each cs → P (firstOf (outOfRange rs ∷ cs))
   settings-then rs cs p = first-is (outOfRange rs ∷ cs) (setting-is, p)
 
   -- the settings of a call that reads what is taught in school alone
@@ -53,7 +54,7 @@ module _ (P : ℕ → Type 0) (none-is : P 0) (setting-is : P wrongSetting) wher
         go true = room-is
         go false = none-is
 
-    replied-is : (n : ℕ) (xs b : List ℕ) → P n → P (numberOf (unless n (fitted xs b)))
+    pub replied-is : (n : ℕ) (xs b : List ℕ) → P n → P (numberOf (unless n (fitted xs b)))
     replied-is zero xs b p = fitted-is xs b
     replied-is (suc n) xs b p = p
 
@@ -68,7 +69,7 @@ module _ (P : ℕ → Type 0) (none-is : P 0) (setting-is : P wrongSetting) wher
     unknown-is none = code-is
     unknown-is (some c) = code-is
 
-    refusal-is : P malformed → P wrongSign → P tooLarge → (call : SpellingCall) → P (spellingOf call .refusal)
+    pub refusal-is : P malformed → P wrongSign → P tooLarge → (call : SpellingCall) → P (spellingOf call .refusal)
     refusal-is text sign size (toCardinal gender number case apostrophe style t) = settings-then (ukrainianRanges (ukrainianSettings gender number case apostrophe style)) (cardinalRefusals ukrainianDigitLimit t) (text, (size, tt))
     refusal-is text sign size (toOrdinal gender number case apostrophe style t) = settings-then (ukrainianRanges (ukrainianSettings gender number case apostrophe style)) (ordinalRefusals ukrainianDigitLimit t) (text, (sign, (size, tt)))
     refusal-is text sign size (toOrdinalNum gender number case apostrophe style t) = settings-then (ukrainianRanges (ukrainianSettings gender number case apostrophe style)) (digitOrdinalRefusals t) (text, (sign, (size, tt)))
@@ -119,7 +120,7 @@ module _ (gender number case apostrophe style : ℕ) {s xs ys : List ℕ} {r : A
   year-reading-gives = gives (readingOf (fromYear gender number case apostrophe style)) refl
 
 -- a measuring call's refusal is the spelling call's: "Refusals 1 to 5 come in their old order; 7 never occurs here" (02, W1)
-measured-refusal : (n : ℕ) (phrase : List ℕ) → measureUnless n phrase .refusal ≡ n
+pub measured-refusal : (n : ℕ) (phrase : List ℕ) → measureUnless n phrase .refusal ≡ n
 measured-refusal zero phrase = refl
 measured-refusal (suc n) phrase = refl
 
@@ -129,7 +130,23 @@ measuring-gives call m e =
     (refusal-is (OneOf (0 ∷ wrongSetting ∷ wrongCode ∷ malformed ∷ wrongSign ∷ tooLarge ∷ [])) (inl refl) (inr (inl refl)) (inr (inr (inl refl)))
     (inr (inr (inr (inl refl)))) (inr (inr (inr (inr (inl refl))))) (inr (inr (inr (inr (inr (inl refl)))))) call)
 
--- every call's number is one of the table, or 0
+-- an opening call gives 2 and 7 only, where it refuses (02, W4)
+opening-is : (P : ℕ → Type 0) → P 0 → P wrongCode → P noRoom → (code xs : List ℕ) → P (numberOf (replied (opening code) xs))
+opening-is P none-is code-is room-is code xs = go (currencyOf code)
+  where
+    room : (b : List ℕ) (t : Bool) → P (numberOf (cond t (refused noRoom (length b)) (bytes b)))
+    room b true = room-is
+    room b false = none-is
+
+    go : (c : Option Currency) → P (numberOf (unless (firstOf (unknown c ∷ [])) (fitted xs (emptyBytes c))))
+    go none = code-is
+    go (some c) = room (emptyBytes (some c)) (ltb (length xs) (length (emptyBytes (some c))))
+
+pub opening-gives : (code : List ℕ) (r : Answer) (xs ys : List ℕ) → Answers r xs ys (replied (opening code) xs) → OneOf (0 ∷ wrongCode ∷ noRoom ∷ []) (r .number)
+opening-gives code r xs ys a = rw (a .reported) (opening-is (OneOf (0 ∷ wrongCode ∷ noRoom ∷ [])) (inl refl) (inr (inl refl)) (inr (inr (inl refl))) code xs)
+
+-- the number of every call that answers with an `Answer` is one of 01's table, or 0
 pub number-known : (r : Answer) (xs ys : List ℕ) → Called r xs ys → r .number ≤ noRoom
 number-known r xs ys (bySpelling call a) = rw (a .reported) (spelling-is (λ (n : ℕ). n ≤ noRoom) (omega arith) (omega arith) (omega arith) (omega arith) (omega arith) (omega arith) (omega arith) call xs)
 number-known r xs ys (byReading call s p) = rw (p .isAnswer .reported) (reading-is (λ (n : ℕ). n ≤ noRoom) (omega arith) (omega arith) (omega arith) (omega arith) (omega arith) call (p .isReply))
+number-known r xs ys (byOpening code a) = rw (a .reported) (opening-is (λ (n : ℕ). n ≤ noRoom) (omega arith) (omega arith) (omega arith) code xs)

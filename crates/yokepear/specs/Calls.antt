@@ -1,5 +1,5 @@
 -- All calls: what each is given, and what it comes to. The contracts of the exported functions cite this list; a measuring call's cites what its spelling
--- call comes to, and it is given the same.
+-- call comes to, and it is given the same. What the calls on a tally come to stands with them (tally_calls/specs/TallyCalls.antt).
 -- Assumes nothing.
 use Prim.Native.Nat.{ℕ}
 use mathlib.Core.Path.{_≡_}
@@ -7,12 +7,16 @@ use mathlib.Core.Logic.{_⊎_}
 use mathlib.Core.List.{List, [], _∷_}
 use lib.IntN.{ℤ}
 use Rattle.base.specs.Answer.{Spelling, replied, Answers}
+use Rattle.base.specs.Measure.{measured}
 use Rattle.base.specs.Reading.{Reading, Reads}
 use Rattle.base.specs.declared.Answer.{Answer}
+use Rattle.base.specs.declared.Measure.{Measure}
 use Rattle.settings.specs.Settings.{ukrainianSettings, frenchSettings}
 use Rattle.uk_calls.specs.UkCardinals.{ukToCardinal, ukFromCardinal}
 use Rattle.uk_ordinal_calls.specs.UkOrdinals.{ukToOrdinal, ukToOrdinalNum, ukToYear, ukFromOrdinal, ukFromYear}
 use Rattle.uk_money_calls.specs.MoneyCalls.{ukToCurrency, ukFromCurrency}
+use Rattle.tally_calls.specs.TallyCalls.{opening, TallyCall, moveOf, Tallies}
+use Rattle.tally_calls.specs.declared.Tallied.{Tallied}
 use Rattle.fr_calls.specs.FrCalls.{frToCardinal, frToOrdinal, frFromCardinal, frFromOrdinal}
 
 -- the spelling calls, each with the numbers and the input that it is given
@@ -57,6 +61,13 @@ readingOf (fromFrenchOrdinal feminine reformed region) = frFromOrdinal (frenchSe
 pub data Called (r : Answer) (xs ys : List ℕ) : Type 0 where
   bySpelling : (call : SpellingCall) → Answers r xs ys (replied (spellingOf call) xs) → Called r xs ys
   byReading : (call : ReadingCall) (s : List ℕ) → Reads (readingOf call) s r xs ys → Called r xs ys
+  byOpening : (code : List ℕ) → Answers r xs ys (replied (opening code) xs) → Called r xs ys
+
+-- n is the number of an answer that the contract of some call allows
+pub data NumberOfCall : ℕ → Type 0 where
+  ofAnswer : (r : Answer) (xs ys : List ℕ) → Called r xs ys → NumberOfCall (r .number)
+  ofMeasure : (call : SpellingCall) (m : Measure) → m ≡ measured (spellingOf call) → NumberOfCall (m .refusal)
+  ofTally : (call : TallyCall) (ts : List ℕ) (r : Tallied) (xs ys : List ℕ) → Tallies r xs ys (moveOf call ts .report) → NumberOfCall (r .refusal)
 
 -- n is one of these
 abbrev pub OneOf : List ℕ → ℕ → Type 0

@@ -3,10 +3,13 @@
 // (include/yokepear.h).
 use base::Answer;
 use base::Measure;
+use tally_calls::Tallied;
 ghost use mathlib.Core.Path.{_≡_};
 ghost use Rattle.base.specs.Answer.{replied, Answers};
 ghost use Rattle.base.specs.Measure.{measured};
 ghost use Rattle.base.specs.Reading.{Reads};
+ghost use Rattle.settings.specs.Settings.{ukrainianSettings};
+ghost use Rattle.tally_calls.specs.TallyCalls.{opening, adds, removes, moveOf, Tallies, tallyAfter};
 ghost use Rattle.yokepear.specs.Calls.{toCardinal, toOrdinal, toOrdinalNum, toYear, toCurrency, toFrenchCardinal, toFrenchOrdinal, spellingOf, fromCardinal, fromOrdinal, fromYear, fromCurrency, fromFrenchCardinal, fromFrenchOrdinal, readingOf};
 
 // The cardinal of a number text.
@@ -311,4 +314,48 @@ pub extern "C" fn yokepear_fr_measure_ordinal(
     ensures { λ r. ⌜ r ≡ measured (spellingOf (toFrenchOrdinal feminine reformed region (now (text .entry)))) ⌝ }
 {
     fr_calls::measure_ordinal(feminine, reformed, region, text)
+}
+
+// The empty tally of a code's currency.
+#[no_mangle]
+pub extern "C" fn yokepear_tally_open(code: &[u8], tally: &mut [u8]) -> Answer
+    ensures { λ r. ⌜ Answers r (now (tally .entry)) (now (tally .exit)) (replied (opening (now (code .entry))) (now (tally .entry))) ⌝ }
+{
+    tally_calls::open(code, tally)
+}
+
+// Adding the amount of a money text to a tally.
+#[no_mangle]
+pub extern "C" fn yokepear_tally_add(
+    gender: u32,
+    number: u32,
+    case: u32,
+    apostrophe: u32,
+    style: u32,
+    tally: &mut [u8],
+    text: &[u8],
+    out: &mut [u8],
+) -> Tallied
+    ensures { λ r. ⌜ Tallies r (now (out .entry)) (now (out .exit)) (moveOf (adds (ukrainianSettings gender number case apostrophe style) (now (text .entry))) (now (tally .entry)) .report) ⌝ }
+    ensures { λ _. ⌜ now (tally .exit) ≡ tallyAfter (moveOf (adds (ukrainianSettings gender number case apostrophe style) (now (text .entry))) (now (tally .entry))) (now (out .entry)) (now (tally .entry)) ⌝ }
+{
+    tally_calls::add(gender, number, case, apostrophe, style, tally, text, out)
+}
+
+// Removing the amount under an item number from a tally.
+#[no_mangle]
+pub extern "C" fn yokepear_tally_remove(
+    gender: u32,
+    number: u32,
+    case: u32,
+    apostrophe: u32,
+    style: u32,
+    item: u32,
+    tally: &mut [u8],
+    out: &mut [u8],
+) -> Tallied
+    ensures { λ r. ⌜ Tallies r (now (out .entry)) (now (out .exit)) (moveOf (removes (ukrainianSettings gender number case apostrophe style) item) (now (tally .entry)) .report) ⌝ }
+    ensures { λ _. ⌜ now (tally .exit) ≡ tallyAfter (moveOf (removes (ukrainianSettings gender number case apostrophe style) item) (now (tally .entry))) (now (out .entry)) (now (tally .entry)) ⌝ }
+{
+    tally_calls::remove(gender, number, case, apostrophe, style, item, tally, out)
 }

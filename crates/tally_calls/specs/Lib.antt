@@ -1,0 +1,4 @@
+pub mod TallyCalls
+pub mod History
+pub mod Changes
+pub mod Run
