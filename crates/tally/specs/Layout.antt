@@ -13,7 +13,7 @@ use Rattle.uk_money.specs.Rows.{currencyAt, codePlace}
 use Rattle.tally.specs.Tally.{mostAmounts, Tally}
 use Rattle.tally.specs.declared.Place.{Place}
 
--- a place in 13 bytes: item number, whole part, hundredths, each number's lowest byte first
+-- a place in 13 bytes: item number, whole part, hundredths, each number's lowest byte first; and places, one behind the other
 abbrev pub placeBytes : Place → List ℕ
 placeBytes p = lowBytes 4 (p .item) ++ (lowBytes 8 (p .whole) ++ lowBytes 1 (p .hundredths))
 
@@ -51,7 +51,7 @@ abbrev pub tallyOf : Option Currency → List ℕ → Option Tally
 tallyOf none b = none
 tallyOf (some c) b = some (record { currency = c; given = num (take 4 (drop 1 b)); places = placesIn mostAmounts (drop 5 b) })
 
--- the tally that bytes hold: none if they are too few, or if the first is no currency's number. Any others hold one; no call made those of which this is
--- not so, and "of bytes that no call made, only demand 1 is asked"
+-- the tally that bytes hold: none if they are too few, or if the first is no currency's number. All others hold one, also such as no call made: of those
+-- "only demand 1 is asked"
 abbrev pub tallyIn : List ℕ → Option Tally
 tallyIn b = cond (ltb (length b) tallySize) none (tallyOf (numberedCurrency (getD b 0 0)) b)

@@ -52,7 +52,8 @@ pub spoken : (S : Settings) (c : Currency) (n whole part : ℕ) {r : Answer} {xs
 spoken S c n whole part e h l a =
     let q : n / 100 ≡ whole = omega arith in
     let p : n % 100 ≡ part = omega arith in
-    rw (q, p, le-ltb moneyLimit whole l) a
+    let f : passesLimit n ≡ false = le-ltb moneyLimit (n / 100) (omega (arith, q)) in
+    rw (f, q, p) a
 
 -- a refusal that reports no length is the one of a spelling with this refusal, and of a call with this spelling
 module _ (d : Change) (n : ℕ) (a : (d .refusal ≡ n) × (d .length ≡ 0)) (other : n ≡ 0 → ⊥) where

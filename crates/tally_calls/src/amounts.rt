@@ -14,7 +14,7 @@ ghost use Rattle.uk_money.specs.Rows.{currencyAt};
 ghost use Rattle.uk_money.specs.Money.{amountPhrase};
 
 // The amount of an admitted text under an item number.
-pub fn place_of(item: u32, text: &[u8]) -> Place
+pub fn amount_of(item: u32, text: &[u8]) -> Place
     requires { ⌜ Admitted (amountRefusals (now text)) ⌝ }
     ensures { λ r. ⌜ (r .item ≡ item) × (r .whole ≡ wholeOf (now (text .entry))) × (r .hundredths ≡ hundredthsOf (now (text .entry))) × (r .hundredths < 100) ⌝ }
 {

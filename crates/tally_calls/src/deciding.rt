@@ -1,5 +1,5 @@
 // What adding and removing come to on a tally that is only looked at: what is refused, in 02's order, the new total's phrase, and what is to be stored.
-use crate::amounts::place_of;
+use crate::amounts::amount_of;
 use crate::amounts::speak_sum;
 use base::NOT_HELD;
 use base::SUM_TOO_LARGE;
@@ -69,7 +69,8 @@ fn weigh(
     ensures { λ r. ⌜ (r .refusal ≡ 0 → (r .given ≡ given) × (r .at ≡ at) × (r .place ≡ place)) ⌝ }
 {
     let sum = tally::sums::sum_with(tally, at, place);
-    if sum.within {
+    let within = sum.within;
+    if within {
         let spoken = speak_sum(settings, currency, sum.whole, sum.hundredths, out);
         return Change {
             refusal: spoken.number,
@@ -98,7 +99,7 @@ fn add_amount(
     if given < LAST_ITEM {
         if at < PLACES {
             let item = given + 1;
-            let place = place_of(item, text);
+            let place = amount_of(item, text);
             return weigh(settings, currency, item, at, place, tally, out);
         }
     }

@@ -12,7 +12,7 @@ returns c =
     let b = c .before .before .before .before .before in
     let s = b .before .before .before .before .before .before .before in
     let p = s .pre in
-    decides-added _ (p .0) _ _ (s .args .text .now) (p .3) _ _ _ _ _ _ (p .1) (p .4) (p .2) (b .before .before .before .given-by .ensures) (b .before .before .find .ensures) (c .before .before .before .before .place-of .ensures) (b .before .if1 .taken) (b .if2 .taken) (c .before .before .weigh .ensures)
+    decides-added _ (p .0) _ _ (s .args .text .now) (p .3) _ _ _ _ _ _ (p .1) (p .4) (p .2) (b .before .before .before .given-by .ensures) (b .before .before .find .ensures) (c .before .before .before .before .amount-of .ensures) (b .before .if1 .taken) (b .if2 .taken) (c .before .before .weigh .ensures)
 
 returns-2 : tie.Need-returns-2
 returns-2 c =

@@ -1,4 +1,4 @@
--- `tally_calls::amounts::place_of` meets its contract.
+-- `tally_calls::amounts::amount_of` meets its contract.
 -- Assumes nothing.
 use Prim.Native.Nat.{_<_}
 use mathlib.Core.Path.{_≡_, ap, _∙_}
@@ -10,8 +10,8 @@ use Rattle.figures.specs.Text.{digits, plain, value, unsigned}
 use Rattle.figures.specs.Money.{wholeText, hundredthsOf}
 use Rattle.figures.proofs.Laws.Plain.{plain-digits}
 use Rattle.uk_money_calls.proofs.Texts.{admits, plain-whole, hundredths-digits, hundredths-small}
-use Rattle.tally_calls.proofs.amounts.place_of.Statement.{statement}
-use Rattle.tally_calls.proofs.amounts.place_of.Tie as tie
+use Rattle.tally_calls.proofs.amounts.amount_of.Statement.{statement}
+use Rattle.tally_calls.proofs.amounts.amount_of.Tie as tie
 
 -- the digits of the whole part
 whole-is : (c : tie.After-after-sign) → c .after-sign .result .now ≡ unsigned (wholeText (c .before .before .before .args .text .now))
@@ -40,6 +40,6 @@ small c = let s = c .before .before .before .before .before .before in rw (part-
 returns : tie.Need-returns
 returns c = (search needs, c .before .before .value-of .ensures ∙ ap value (whole-is (c .before .before .before)), part-is c, small c)
 
-pub place-of-spec : {M : Type 1} → statement M
-place-of-spec =
+pub amount-of-spec : {M : Type 1} → statement M
+amount-of-spec =
     tie.close (tie.spec (λ c κs. search needs) (λ c κs. search needs) value-of-requires (λ c κs. search needs) value-of-requires-2 (λ c. omega (arith, small c)) returns)
