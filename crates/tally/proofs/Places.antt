@@ -13,7 +13,7 @@ use Rattle.base.specs.Bytes.{num}
 use Rattle.figures.specs.Money.{moneyLimit}
 use Rattle.tally.specs.Tally.{inHundredths, sumIn, isUnder, exchanged}
 use Rattle.tally.specs.Layout.{placeIn, placesIn}
-use Rattle.tally.specs.Sums.{placeOf, IsSum}
+use Rattle.tally.specs.Sums.{placeUnder, IsSum}
 use Rattle.tally.specs.declared.Place.{Place}
 
 -- as many places as asked for
@@ -32,15 +32,15 @@ places-from (suc i) (suc k) b h =
     places-from i k (drop 13 b) (omega arith) ∙ rw (drop-drop (13 * i) 13 b, n) refl
 
 -- the place with this number in a tally's bytes, as the code reads it
-abbrev pub placeAt : List ℕ → ℕ → Place
-placeAt ts i = record { item = num (take 4 (drop (5 + i * 13) ts)); whole = num (take 8 (drop (5 + i * 13 + 4) ts)); hundredths = getD ts (5 + i * 13 + 12) 0 }
+abbrev pub placeRead : List ℕ → ℕ → Place
+placeRead ts i = record { item = num (take 4 (drop (5 + i * 13) ts)); whole = num (take 8 (drop (5 + i * 13 + 4) ts)); hundredths = getD ts (5 + i * 13 + 12) 0 }
 
 -- a tally's places
 abbrev pub placesOf : List ℕ → List Place
 placesOf ts = placesIn 64 (drop 5 ts)
 
 -- the places from one on begin with that one
-pub places-at : (ts : List ℕ) (i : ℕ) → 837 ≤ length ts → i < 64 → drop i (placesOf ts) ≡ placeAt ts i ∷ drop (suc i) (placesOf ts)
+pub places-at : (ts : List ℕ) (i : ℕ) → 837 ≤ length ts → i < 64 → drop i (placesOf ts) ≡ placeRead ts i ∷ drop (suc i) (placesOf ts)
 places-at ts i l h =
     let n : 5 + 13 * i ≡ 5 + i * 13 = omega arith in
     let at : ℕ = 5 + i * 13 in
@@ -49,18 +49,18 @@ places-at ts i l h =
     places-from i 64 (drop 5 ts) h ∙ rw (b, drop-drop 4 at ts, drop-drop 12 at ts, e) refl
 
 -- the first place has the item number
-pub here : (i : ℕ) (p : Place) (ps : List Place) → p .item ≡ i → placeOf i (p ∷ ps) ≡ 0
-unfolding placeOf
+pub here : (i : ℕ) (p : Place) (ps : List Place) → p .item ≡ i → placeUnder i (p ∷ ps) ≡ 0
+unfolding placeUnder
 here i p ps e = rw (eq-eqb (p .item) i e) refl
 
 -- the first place has another
-pub later : (i : ℕ) (p : Place) (ps : List Place) → (p .item ≡ i → ⊥) → placeOf i (p ∷ ps) ≡ suc (placeOf i ps)
-unfolding placeOf
+pub later : (i : ℕ) (p : Place) (ps : List Place) → (p .item ≡ i → ⊥) → placeUnder i (p ∷ ps) ≡ suc (placeUnder i ps)
+unfolding placeUnder
 later i p ps n = rw (ne-eqb (p .item) i n) refl
 
 -- there is no place
-pub nowhere : (i : ℕ) → placeOf i [] ≡ 0
-unfolding placeOf
+pub nowhere : (i : ℕ) → placeUnder i [] ≡ 0
+unfolding placeUnder
 nowhere i = refl
 
 -- one place more
@@ -86,25 +86,25 @@ sum-set (p ∷ ps) zero q h = omega arith
 sum-set (p ∷ ps) (suc i) q h = omega (arith, sum-set ps i q (omega arith))
 
 -- to exchange by an item number is to set the first place with it
-pub exchanged-set : (i : ℕ) (q : Place) (ps : List Place) → placeOf i ps < length ps → exchanged i q ps ≡ set ps (placeOf i ps) q
-unfolding placeOf
+pub exchanged-set : (i : ℕ) (q : Place) (ps : List Place) → placeUnder i ps < length ps → exchanged i q ps ≡ set ps (placeUnder i ps) q
+unfolding placeUnder
 exchanged-set i q [] h = refl
 exchanged-set i q (p ∷ ps) h = at (eqb (p .item) i) h (exchanged-set i q ps)
   where
-    at : (t : Bool) → cond t 0 (suc (placeOf i ps)) < suc (length ps) → (placeOf i ps < length ps → exchanged i q ps ≡ set ps (placeOf i ps) q)
-        → cond t (q ∷ ps) (p ∷ exchanged i q ps) ≡ set (p ∷ ps) (cond t 0 (suc (placeOf i ps))) q
+    at : (t : Bool) → cond t 0 (suc (placeUnder i ps)) < suc (length ps) → (placeUnder i ps < length ps → exchanged i q ps ≡ set ps (placeUnder i ps) q)
+        → cond t (q ∷ ps) (p ∷ exchanged i q ps) ≡ set (p ∷ ps) (cond t 0 (suc (placeUnder i ps))) q
     at true h e = refl
     at false h e = rw (e (omega arith)) refl
 
 -- a place has an item number where the first with it is before the end
-pub under-found : (i : ℕ) (ps : List Place) → isUnder i ps ≡ ltb (placeOf i ps) (length ps)
-unfolding placeOf
+pub under-found : (i : ℕ) (ps : List Place) → isUnder i ps ≡ ltb (placeUnder i ps) (length ps)
+unfolding placeUnder
 under-found i [] = refl
 under-found i (p ∷ ps) = at (eqb (p .item) i) (under-found i ps)
   where
-    at : (t : Bool) → isUnder i ps ≡ ltb (placeOf i ps) (length ps) → (t || isUnder i ps) ≡ ltb (cond t 0 (suc (placeOf i ps))) (suc (length ps))
+    at : (t : Bool) → isUnder i ps ≡ ltb (placeUnder i ps) (length ps) → (t || isUnder i ps) ≡ ltb (cond t 0 (suc (placeUnder i ps))) (suc (length ps))
     at true e = sym (lt-ltb 0 (suc (length ps)) (omega arith))
-    at false e = e ∙ sym (leb·suc-suc (suc (placeOf i ps)) (length ps))
+    at false e = e ∙ sym (leb·suc-suc (suc (placeUnder i ps)) (length ps))
 
 -- a sum above the limit
 pub is-beyond : (n : ℕ) → moneyLimit < n / 100 → IsSum (record { within = false; whole = 0; hundredths = 0 }) n

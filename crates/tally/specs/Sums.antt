@@ -11,9 +11,9 @@ use Rattle.tally.specs.declared.Place.{Place}
 use Rattle.tally.specs.declared.Sum.{Sum}
 
 -- which of some places, from 0 on, is the first with this item number; their count where none has it
-unfoldable pub placeOf : ℕ → List Place → ℕ
-placeOf i [] = 0
-placeOf i (p ∷ ps) = cond (eqb (p .item) i) 0 (suc (placeOf i ps))
+unfoldable pub placeUnder : ℕ → List Place → ℕ
+placeUnder i [] = 0
+placeUnder i (p ∷ ps) = cond (eqb (p .item) i) 0 (suc (placeUnder i ps))
 
 -- r is the sum n, in hundredths, or says that its whole part is above the limit
 pub record IsSum (r : Sum) (n : ℕ) : Type 0 where

@@ -15,7 +15,7 @@ ghost use Rattle.base.specs.Bytes.{num, lowBytes};
 ghost use Rattle.uk_money.specs.Rows.{currencyAt};
 ghost use Rattle.tally.specs.Tally.{emptyTally};
 ghost use Rattle.tally.specs.Layout.{placeBytes, placesBytes, placesIn, tallyBytes, tallyOf, tallyIn};
-ghost use Rattle.tally.specs.Sums.{placeOf};
+ghost use Rattle.tally.specs.Sums.{placeUnder};
 
 // An amount under its item number, 0 for none.
 pub struct Place {
@@ -75,7 +75,7 @@ pub fn given_by(tally: &[u8]) -> u32
 // Which place is the first with this item number; PLACES where none has it.
 pub fn find(tally: &[u8], item: u32) -> usize
     requires { ⌜ 837 ≤ length (now tally) ⌝ }
-    ensures { λ r. ⌜ r ≡ placeOf item (placesIn 64 (drop 5 (now (tally .entry)))) ⌝ }
+    ensures { λ r. ⌜ r ≡ placeUnder item (placesIn 64 (drop 5 (now (tally .entry)))) ⌝ }
 {
     let sought = item as u64;
     let mut i = 0;

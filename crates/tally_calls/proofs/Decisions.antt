@@ -25,12 +25,12 @@ use Rattle.uk_money.specs.Money.{amountPhrase}
 use Rattle.uk_money_calls.proofs.Texts.{admits}
 use Rattle.tally.specs.Tally.{lastItem, freePlace, Tally, sumIn, isUnder, exchanged}
 use Rattle.tally.specs.Layout.{placesBytes, tallyBytes, placesIn}
-use Rattle.tally.specs.Sums.{placeOf}
+use Rattle.tally.specs.Sums.{placeUnder}
 use Rattle.tally.specs.declared.Place.{Place}
 use Rattle.tally.proofs.Places.{exchanged-set, under-found, places-length}
 use Rattle.tally.proofs.Numbered.{place-of-code}
 use Rattle.tally_calls.specs.TallyCalls.{sumPhrase, passesLimit, Move, isFull, nextPlace, adding, isHeld, removing}
-use Rattle.tally_calls.specs.Changes.{placesWith, weighing, Weighs, Settles, Decides}
+use Rattle.tally_calls.specs.Changes.{placesWith, weighing, Weighs, Settles, Prepares}
 use Rattle.tally_calls.specs.declared.deciding.Change.{Change}
 
 -- a place is told by its numbers
@@ -64,7 +64,7 @@ module _ (d : Change) (n : ℕ) (a : (d .refusal ≡ n) × (d .length ≡ 0)) (o
       go zero r e s = absurd (s refl)
       go (suc m) r e s = record { reported = rw e r; sized = rw e (a .1); held = rw e refl }
 
-  pub decides-refused : (ts xs : List ℕ) (move : Move) → move .report .spelling .refusal ≡ n → Decides d ts xs xs move
+  pub decides-refused : (ts xs : List ℕ) (move : Move) → move .report .spelling .refusal ≡ n → Prepares d ts xs xs move
   decides-refused ts xs move e = record { weighs = weighs-refused xs (move .report .spelling) e; settles = λ z. absurd (other (sym (a .0) ∙ z)) }
 
 -- a place put in the first with an item number, where one of the 64 has it, and so many item numbers given
@@ -79,20 +79,20 @@ module _ (currency : ℕ) (ts : List ℕ) (i given : ℕ) (q : Place) where
   abbrev exchangedMove : Settings → Move
   exchangedMove S = record { report = record { spelling = sumSpelling S (currencyAt currency) (sumIn (exchanged i q places)); item = q .item }; after = tallyBytes exchangedTally }
 
-  module _ (found : placeOf i places < 64) where
-    places-are : exchanged i q places ≡ placesWith (placeOf i places) q ts
+  module _ (found : placeUnder i places < 64) where
+    places-are : exchanged i q places ≡ placesWith (placeUnder i places) q ts
     places-are = exchanged-set i q places (rw places-length found)
 
     -- what is stored of it
-    bytes-are : currency < 44 → getD ts 0 0 ≡ suc currency → tallyBytes exchangedTally ≡ getD ts 0 0 ∷ (lowBytes 4 given ++ placesBytes (placesWith (placeOf i places) q ts))
+    bytes-are : currency < 44 → getD ts 0 0 ≡ suc currency → tallyBytes exchangedTally ≡ getD ts 0 0 ∷ (lowBytes 4 given ++ placesBytes (placesWith (placeUnder i places) q ts))
     bytes-are below numbered =
         let e : suc currency % 256 ≡ suc currency = omega arith in
         rw (places-are, place-of-code currency below, e, numbered) refl
 
     -- a change that was weighed so is what the call decides
     decides-weighed : (S : Settings) (d : Change) (xs ys : List ℕ) → currency < 44 → getD ts 0 0 ≡ suc currency → 837 ≤ length ts
-        → Weighs d xs ys (weighing S currency (placeOf i places) q ts) → (d .refusal ≡ 0 → (d .given ≡ given) × (d .at ≡ placeOf i places) × (d .place ≡ q))
-        → Decides d ts xs ys (exchangedMove S)
+        → Weighs d xs ys (weighing S currency (placeUnder i places) q ts) → (d .refusal ≡ 0 → (d .given ≡ given) × (d .at ≡ placeUnder i places) × (d .place ≡ q))
+        → Prepares d ts xs ys (exchangedMove S)
     decides-weighed S d xs ys below numbered long w s = record { weighs = rw places-are w; settles = go }
       where
         go : d .refusal ≡ 0 → Settles d ts (exchangedMove S)
@@ -111,8 +111,8 @@ module _ (S : Settings) (w : Within (ukrainianRanges S)) (currency : ℕ) (ts : 
   tally = tallyAt currency ts
 
   -- a place has an item number if it is found among the 64
-  under-is : (i : ℕ) → isUnder i (tally .places) ≡ ltb (placeOf i (tally .places)) 64
-  under-is i = under-found i (tally .places) ∙ ap (ltb (placeOf i (tally .places))) (places-length 64 (drop 5 ts))
+  under-is : (i : ℕ) → isUnder i (tally .places) ≡ ltb (placeUnder i (tally .places)) 64
+  under-is i = under-found i (tally .places) ∙ ap (ltb (placeUnder i (tally .places))) (places-length 64 (drop 5 ts))
 
   -- adding an admitted text
   module _ (t : List ℕ) (a : Admitted (amountRefusals t)) where
@@ -122,10 +122,10 @@ module _ (S : Settings) (w : Within (ukrainianRanges S)) (currency : ℕ) (ts : 
 
     -- a place is free, and an item number is left
     pub decides-added : (d : Change) (xs ys : List ℕ) (given at : ℕ) (place : Place) → currency < 44 → getD ts 0 0 ≡ suc currency → 837 ≤ length ts
-        → given ≡ tally .given → at ≡ placeOf 0 (tally .places)
+        → given ≡ tally .given → at ≡ placeUnder 0 (tally .places)
         → (place .item ≡ given + 1) × (place .whole ≡ wholeOf t) × (place .hundredths ≡ hundredthsOf t) × (place .hundredths < 100) → given < lastItem → at < 64
         → Weighs d xs ys (weighing S currency at place ts) × (d .refusal ≡ 0 → (d .given ≡ given + 1) × (d .at ≡ at) × (d .place ≡ place))
-        → Decides d ts xs ys (adding S (some tally) t)
+        → Prepares d ts xs ys (adding S (some tally) t)
     decides-added d xs ys given at place below numbered long eg ea ep few found x =
         let g : given + 1 ≡ suc (tally .given) = omega arith in
         let p : place ≡ nextPlace tally t = place-is place (ep .0 ∙ g) (ep .1) (ep .2) in
@@ -134,8 +134,8 @@ module _ (S : Settings) (w : Within (ukrainianRanges S)) (currency : ℕ) (ts : 
         (decides-weighed currency ts 0 (suc (tally .given)) (nextPlace tally t) (rw ea at found) S d xs ys below numbered long (rw (ea, p) at (x .0)) (λ z. (x .1 z .0 ∙ g, x .1 z .1 ∙ ea, x .1 z .2 ∙ p)))
 
     -- no place is free, or the last item number is given
-    pub decides-full : (d : Change) (xs : List ℕ) (given at : ℕ) → given ≡ tally .given → at ≡ placeOf 0 (tally .places) → given ≤ lastItem → (given < lastItem → at < 64 → ⊥)
-        → (d .refusal ≡ tallyFull) × (d .length ≡ 0) → Decides d ts xs xs (adding S (some tally) t)
+    pub decides-full : (d : Change) (xs : List ℕ) (given at : ℕ) → given ≡ tally .given → at ≡ placeUnder 0 (tally .places) → given ≤ lastItem → (given < lastItem → at < 64 → ⊥)
+        → (d .refusal ≡ tallyFull) × (d .length ≡ 0) → Prepares d ts xs xs (adding S (some tally) t)
     decides-full d xs given at eg ea l n r = decides-refused d tallyFull r (λ e. omega arith) ts xs (adding S (some tally) t) (rw (add-refusal, full (decLt given lastItem)) refl)
       where
         either : (b : Bool) → (b || true) ≡ true
@@ -143,23 +143,23 @@ module _ (S : Settings) (w : Within (ukrainianRanges S)) (currency : ℕ) (ts : 
         either false = refl
 
         full : Dec (given < lastItem) → isFull tally ≡ true
-        full (yes h) = rw (under-is 0, le-ltb (placeOf 0 (tally .places)) 64 (omega (arith, n h))) refl
+        full (yes h) = rw (under-is 0, le-ltb (placeUnder 0 (tally .places)) 64 (omega (arith, n h))) refl
         full (no h) = rw (eq-eqb (tally .given) lastItem (omega arith)) (either (not (isUnder 0 (tally .places))))
 
   -- removing the amount under an item number
-  module _ (i at : ℕ) (ea : at ≡ placeOf i (tally .places)) where
+  module _ (i at : ℕ) (ea : at ≡ placeUnder i (tally .places)) where
     -- a place has it
     pub decides-removed : (d : Change) (xs ys : List ℕ) (given : ℕ) → currency < 44 → getD ts 0 0 ≡ suc currency → 837 ≤ length ts → given ≡ tally .given → (i ≡ 0 → ⊥) → at < 64
         → Weighs d xs ys (weighing S currency at freePlace ts) × (d .refusal ≡ 0 → (d .given ≡ given) × (d .at ≡ at) × (d .place ≡ freePlace))
-        → Decides d ts xs ys (removing S (some tally) i)
+        → Prepares d ts xs ys (removing S (some tally) i)
     decides-removed d xs ys given below numbered long eg s found x =
         rw (within-test (ukrainianRanges S) w, ne-eqb i 0 s, under-is i, lt-ltb _ _ (rw ea at found))
         (decides-weighed currency ts i (tally .given) freePlace (rw ea at found) S d xs ys below numbered long (rw ea at (x .0)) (λ z. (x .1 z .0 ∙ eg, x .1 z .1 ∙ ea, x .1 z .2)))
 
     -- no place has it
-    pub decides-not-held : (d : Change) (xs : List ℕ) → ((i ≡ 0 → ⊥) → at < 64 → ⊥) → (d .refusal ≡ notHeld) × (d .length ≡ 0) → Decides d ts xs xs (removing S (some tally) i)
+    pub decides-not-held : (d : Change) (xs : List ℕ) → ((i ≡ 0 → ⊥) → at < 64 → ⊥) → (d .refusal ≡ notHeld) × (d .length ≡ 0) → Prepares d ts xs xs (removing S (some tally) i)
     decides-not-held d xs n r = decides-refused d notHeld r (λ e. omega arith) ts xs (removing S (some tally) i) (rw (within-test (ukrainianRanges S) w, held (ℕ-discrete i 0)) refl)
       where
         held : Dec (i ≡ 0) → isHeld i tally ≡ false
         held (yes e) = rw (eq-eqb i 0 e) refl
-        held (no e) = rw (ne-eqb i 0 e, under-is i, le-ltb (placeOf i (tally .places)) 64 (omega (arith, n e))) refl
+        held (no e) = rw (ne-eqb i 0 e, under-is i, le-ltb (placeUnder i (tally .places)) 64 (omega (arith, n e))) refl

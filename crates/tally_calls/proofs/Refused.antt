@@ -10,7 +10,7 @@ use Rattle.settings.specs.Settings.{ukrainianRanges, within}
 use Rattle.settings.specs.declared.Settings.{Settings}
 use Rattle.figures.specs.Refusals.{amountRefusals}
 use Rattle.tally.specs.Tally.{Tally, sumIn}
-use Rattle.tally_calls.specs.TallyCalls.{passesLimit, isFull, added, adding, removing}
+use Rattle.tally_calls.specs.TallyCalls.{passesLimit, isFull, withAmount, adding, removing}
 
 -- conditions of which one holds, before others
 first-append : (cs ds : List (Bool × ℕ)) → (firstOf cs ≡ 0 → ⊥) → firstOf (cs ++ ds) ≡ firstOf cs
@@ -41,4 +41,4 @@ module _ (S : Settings) where
     removes-nowhere i = rw w refl
 
     pub adds-text : (T : Tally) (t : List ℕ) → (firstOf (amountRefusals t) ≡ 0 → ⊥) → adding S (some T) t .report .spelling .refusal ≡ firstOf (amountRefusals t)
-    adds-text T t z = rw w (first-append (amountRefusals t) ((isFull T, tallyFull) ∷ (passesLimit (sumIn (added T t .places)), sumTooLarge) ∷ []) z)
+    adds-text T t z = rw w (first-append (amountRefusals t) ((isFull T, tallyFull) ∷ (passesLimit (sumIn (withAmount T t .places)), sumTooLarge) ∷ []) z)

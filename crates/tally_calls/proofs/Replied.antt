@@ -18,9 +18,9 @@ use Rattle.figures.specs.Text.{negative}
 use Rattle.figures.specs.Refusals.{amountRefusals, Admitted}
 use Rattle.uk_money.specs.Currencies.{Currency}
 use Rattle.tally.specs.Tally.{lastItem, Tally, sumIn, isUnder}
-use Rattle.tally_calls.specs.TallyCalls.{passesLimit, isFull, added, isHeld, removed, addReport, removeReport}
-use Rattle.tally_calls.specs.History.{sumOf, hasItem, without, Sheet, withNext, isSheetFull}
-use Rattle.tally_calls.proofs.ItemAmounts.{times, has-times}
+use Rattle.tally_calls.specs.TallyCalls.{passesLimit, isFull, withAmount, isHeld, withoutAmount, addReport, removeReport}
+use Rattle.tally_calls.specs.History.{sumOf, hasItem, withoutItem, Sheet, withNext, isSheetFull}
+use Rattle.tally_calls.proofs.ItemAmounts.{timesUnder, has-times}
 use Rattle.tally_calls.proofs.Agreement.{pairs, pairs-sum, pairs-has, Agrees, sum-added, sum-removed}
 
 -- what a call that is not refused has passed
@@ -83,7 +83,7 @@ module _ {c : Currency} {s : Sheet} {T : Tally} (A : Agrees c s T) where
   -- the tally is full where the list says so
   pub full-same : isFull T ≡ isSheetFull s
   full-same =
-      let e : isUnder 0 (T .places) ≡ ltb (length (s .amounts)) 64 = sym (pairs-has 0 (T .places)) ∙ has-times 0 (pairs (T .places)) ∙ left (times 0 (pairs (T .places))) (length (s .amounts)) (A .freeCount) in
+      let e : isUnder 0 (T .places) ≡ ltb (length (s .amounts)) 64 = sym (pairs-has 0 (T .places)) ∙ has-times 0 (pairs (T .places)) ∙ left (timesUnder 0 (pairs (T .places))) (length (s .amounts)) (A .freeCount) in
       rw (e, A .givenIs) refl
 
   -- an amount is held where the list says so
@@ -94,11 +94,11 @@ module _ {c : Currency} {s : Sheet} {T : Tally} (A : Agrees c s T) where
       ∙ sym (pairs-has (suc i) (T .places)) ∙ has-times (suc i) (pairs (T .places)) ∙ ap (ltb 0) (A .timesAgree (suc i) (omega arith)) ∙ sym (has-times (suc i) (s .amounts))
 
   module _ (S : Settings) (xs : List ℕ) where
-    pub add-same : (t : List ℕ) → replied (addReport S (T .currency) (isFull T) (T .given) (sumIn (added T t .places)) t .spelling) xs ≡ replied (addReport S c (isSheetFull s) (s .given) (sumOf (withNext s t)) t .spelling) xs
+    pub add-same : (t : List ℕ) → replied (addReport S (T .currency) (isFull T) (T .given) (sumIn (withAmount T t .places)) t .spelling) xs ≡ replied (addReport S c (isSheetFull s) (s .given) (sumOf (withNext s t)) t .spelling) xs
     add-same t = go (isFull T) refl ∙ ap (λ (b : Bool). replied (addReport S c b (s .given) n t .spelling) xs) full-same
       where
         m : ℕ
-        m = sumIn (added T t .places)
+        m = sumIn (withAmount T t .places)
 
         n : ℕ
         n = sumOf (withNext s t)
@@ -106,21 +106,21 @@ module _ {c : Currency} {s : Sheet} {T : Tally} (A : Agrees c s T) where
         go : (b : Bool) → isFull T ≡ b → replied (addReport S (T .currency) b (T .given) m t .spelling) xs ≡ replied (addReport S c b (s .given) n t .spelling) xs
         go true e = same-reply (addReport S (T .currency) true (T .given) m t .spelling) (addReport S c true (s .given) n t .spelling) xs refl (λ z. absurd (true≢false (add-passed S (T .currency) true (T .given) m t z .1)))
         go false e =
-            let k : m ≡ n = sym (pairs-sum (added T t .places)) ∙ sum-added A t (not-full T e .0) in
+            let k : m ≡ n = sym (pairs-sum (withAmount T t .places)) ∙ sum-added A t (not-full T e .0) in
             rw (k, A .currencyIs) refl
 
-    pub remove-same : (i : ℕ) → replied (removeReport S (T .currency) (isHeld i T) (sumIn (removed T i .places)) .spelling) xs ≡ replied (removeReport S c (hasItem i (s .amounts)) (sumOf (without i (s .amounts))) .spelling) xs
+    pub remove-same : (i : ℕ) → replied (removeReport S (T .currency) (isHeld i T) (sumIn (withoutAmount T i .places)) .spelling) xs ≡ replied (removeReport S c (hasItem i (s .amounts)) (sumOf (withoutItem i (s .amounts))) .spelling) xs
     remove-same i = go (isHeld i T) refl ∙ ap (λ (b : Bool). replied (removeReport S c b n .spelling) xs) (held-same i)
       where
         m : ℕ
-        m = sumIn (removed T i .places)
+        m = sumIn (withoutAmount T i .places)
 
         n : ℕ
-        n = sumOf (without i (s .amounts))
+        n = sumOf (withoutItem i (s .amounts))
 
         go : (b : Bool) → isHeld i T ≡ b → replied (removeReport S (T .currency) b m .spelling) xs ≡ replied (removeReport S c b n .spelling) xs
         go false e = same-reply (removeReport S (T .currency) false m .spelling) (removeReport S c false n .spelling) xs refl (λ z. absurd (true≢false (sym (remove-passed S (T .currency) false m z))))
         go true e =
             let h = held-there i T e in
-            let k : m ≡ n = sym (pairs-sum (removed T i .places)) ∙ sum-removed A i (h .0) (h .1) in
+            let k : m ≡ n = sym (pairs-sum (withoutAmount T i .places)) ∙ sum-removed A i (h .0) (h .1) in
             rw (k, A .currencyIs) refl

@@ -9,7 +9,7 @@ use lib.ListN.{length}
 use Rattle.base.specs.Answer.{Spelling, noRoom, refused, bytes, numberOf, unless, replied}
 use Rattle.base.specs.Buffer.{over}
 use Rattle.tally_calls.specs.TallyCalls.{Move, ifDone, Tallies, tallyAfter}
-use Rattle.tally_calls.specs.Changes.{changedBy, changed, itemUnless, reportedItem, Decides}
+use Rattle.tally_calls.specs.Changes.{changedBy, changed, itemUnless, reportedItem, Prepares}
 use Rattle.tally_calls.specs.declared.Tallied.{Tallied}
 use Rattle.tally_calls.specs.declared.deciding.Change.{Change}
 
@@ -31,7 +31,7 @@ pub no-item : (n item : ℕ) → (n ≡ 0 → ⊥) → itemUnless n item ≡ 0
 no-item zero item z = absurd (z refl)
 no-item (suc n) item z = refl
 
-module _ {d : Change} {ts xs ys : List ℕ} {move : Move} (decides : Decides d ts xs ys move) where
+module _ {d : Change} {ts xs ys : List ℕ} {move : Move} (decides : Prepares d ts xs ys move) where
   pub tallies : (r : Tallied) → (r .refusal ≡ d .refusal) × (r .item ≡ reportedItem d) × (r .length ≡ d .length) → Tallies r xs ys (move .report)
   tallies r a = record {
     reported = a .0 ∙ decides .weighs .reported;

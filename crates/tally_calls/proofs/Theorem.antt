@@ -23,8 +23,8 @@ use Rattle.uk_money_calls.proofs.Texts.{admits, hundredths-small}
 use Rattle.tally.specs.Tally.{lastItem, Tally, emptyTally, sumIn}
 use Rattle.tally.specs.Layout.{tallyBytes, tallyIn}
 use Rattle.tally.proofs.ReadBack.{tally-read}
-use Rattle.tally_calls.specs.TallyCalls.{Report, Move, passesLimit, opening, adding, removing, isFull, added, isHeld, removed, TallyCall, adds, removes, moveOf, ifDone, Tallies, tallyAfter, addReport, removeReport}
-use Rattle.tally_calls.specs.History.{Amounts, sumOf, Sheet, outcome, sheetAfter, itemAfter, isSheetFull, withNext, without, hasItem}
+use Rattle.tally_calls.specs.TallyCalls.{Report, Move, passesLimit, opening, adding, removing, isFull, withAmount, isHeld, withoutAmount, TallyCall, adds, removes, moveOf, ifDone, Tallies, tallyAfter, addReport, removeReport}
+use Rattle.tally_calls.specs.History.{Amounts, sumOf, Sheet, outcome, sheetAfter, itemAfter, isSheetFull, withNext, withoutItem, hasItem}
 use Rattle.tally_calls.specs.Run.{Run, opened, then}
 use Rattle.tally_calls.specs.declared.Tallied.{Tallied}
 use Rattle.tally_calls.proofs.ItemAmounts.{out-sum}
@@ -77,10 +77,10 @@ module _ (c : Currency) (s : Sheet) (ts xs : List ℕ) (R : Reached c s ts) wher
   add-step : (S : Settings) (t : List ℕ) → After (adds S t)
   add-step S t = subst (λ (reply : Reply). Reached c (ifDone reply (outcome c s (adds S t) .sheet) s) (tallyAfter (adding S (tallyIn ts) t) xs ts)) (add-same (R .agrees) S xs t) (rw (R .holds) (go (replied (adding S (some T) t .report .spelling) xs) refl))
     where
-      go : (reply : Reply) → replied (adding S (some T) t .report .spelling) xs ≡ reply → Reached c (ifDone reply (outcome c s (adds S t) .sheet) s) (ifDone reply (over ts (tallyBytes (added T t))) ts)
+      go : (reply : Reply) → replied (adding S (some T) t .report .spelling) xs ≡ reply → Reached c (ifDone reply (outcome c s (adds S t) .sheet) s) (ifDone reply (over ts (tallyBytes (withAmount T t))) ts)
       go (refused n l) e = R
       go (bytes b) e =
-          let p = add-passed S (T .currency) (isFull T) (T .given) (sumIn (added T t .places)) t (unrefused-bytes (adding S (some T) t .report .spelling) xs b e) in
+          let p = add-passed S (T .currency) (isFull T) (T .given) (sumIn (withAmount T t .places)) t (unrefused-bytes (adding S (some T) t .report .spelling) xs b e) in
           let f = not-full T (p .1) in
           let w = admits t (p .0) .within in
           let h = hundredths-small t (p .0) in
@@ -90,10 +90,10 @@ module _ (c : Currency) (s : Sheet) (ts xs : List ℕ) (R : Reached c s ts) wher
   remove-step : (S : Settings) (i : ℕ) → After (removes S i)
   remove-step S i = subst (λ (reply : Reply). Reached c (ifDone reply (outcome c s (removes S i) .sheet) s) (tallyAfter (removing S (tallyIn ts) i) xs ts)) (remove-same (R .agrees) S xs i) (rw (R .holds) (go (replied (removing S (some T) i .report .spelling) xs) refl))
     where
-      go : (reply : Reply) → replied (removing S (some T) i .report .spelling) xs ≡ reply → Reached c (ifDone reply (outcome c s (removes S i) .sheet) s) (ifDone reply (over ts (tallyBytes (removed T i))) ts)
+      go : (reply : Reply) → replied (removing S (some T) i .report .spelling) xs ≡ reply → Reached c (ifDone reply (outcome c s (removes S i) .sheet) s) (ifDone reply (over ts (tallyBytes (withoutAmount T i))) ts)
       go (refused n l) e = R
       go (bytes b) e =
-          let h = held-there i T (remove-passed S (T .currency) (isHeld i T) (sumIn (removed T i .places)) (unrefused-bytes (removing S (some T) i .report .spelling) xs b e)) in
+          let h = held-there i T (remove-passed S (T .currency) (isHeld i T) (sumIn (withoutAmount T i .places)) (unrefused-bytes (removing S (some T) i .report .spelling) xs b e)) in
           laid (R .place) (R .placeBelow) (R .placeIs) (agrees-removed (R .agrees) i (h .0) (h .1)) ts
 
   step : (call : TallyCall) → After call
@@ -116,8 +116,8 @@ reached c es ts (opened code xs ys r e a z) = reached-empty c code xs ts r e a z
 reached c es us (then ds ts ws run call xs e) = rw e (step c (sheetAfter c ds) ts xs (reached c ds ts run) call)
 
 -- without one of the amounts
-pub fewer-within : (i : ℕ) (l : Amounts) → passesLimit (sumOf l) ≡ false → passesLimit (sumOf (without i l)) ≡ false
-fewer-within i l h = le-ltb moneyLimit (sumOf (without i l) / 100) (omega (arith, ltb-false moneyLimit (sumOf l / 100) h, out-sum i l))
+pub fewer-within : (i : ℕ) (l : Amounts) → passesLimit (sumOf l) ≡ false → passesLimit (sumOf (withoutItem i l)) ≡ false
+fewer-within i l h = le-ltb moneyLimit (sumOf (withoutItem i l) / 100) (omega (arith, ltb-false moneyLimit (sumOf l / 100) h, out-sum i l))
 
 module _ (c : Currency) where
   -- "the total is the sum of amounts added and not removed, computed from that list"

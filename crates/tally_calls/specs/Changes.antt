@@ -31,12 +31,12 @@ pub record Weighs (d : Change) (xs ys : List ℕ) (spelling : Spelling) : Type 0
   pub held : ys ≡ bufferOf xs (replied spelling xs)
 
 -- the bytes ts of a tally with a change stored
-abbrev pub stored : Change → List ℕ → List ℕ
-stored d ts = over ts (getD ts 0 0 ∷ (lowBytes 4 (d .given) ++ placesBytes (placesWith (d .at) (d .place) ts)))
+abbrev pub storedBytes : Change → List ℕ → List ℕ
+storedBytes d ts = over ts (getD ts 0 0 ∷ (lowBytes 4 (d .given) ++ placesBytes (placesWith (d .at) (d .place) ts)))
 
 -- the same, if the change is not refused
 abbrev pub changedBy : ℕ → Change → List ℕ → List ℕ
-changedBy zero d ts = stored d ts
+changedBy zero d ts = storedBytes d ts
 changedBy (suc n) d ts = ts
 
 abbrev pub changed : Change → List ℕ → List ℕ
@@ -55,9 +55,9 @@ pub record Settles (d : Change) (ts : List ℕ) (move : Move) : Type 0 where
   pub itemIs : d .place .item ≡ move .report .item
   pub placeBelow : d .at < 64
   pub long : 837 ≤ length ts
-  pub after : stored d ts ≡ over ts (move .after)
+  pub after : storedBytes d ts ≡ over ts (move .after)
 
 -- the change d is what the call decides on the tally ts, with the buffer xs left as ys
-pub record Decides (d : Change) (ts xs ys : List ℕ) (move : Move) : Type 0 where
+pub record Prepares (d : Change) (ts xs ys : List ℕ) (move : Move) : Type 0 where
   pub weighs : Weighs d xs ys (move .report .spelling)
   pub settles : d .refusal ≡ 0 → Settles d ts move

@@ -27,9 +27,9 @@ hasItem i [] = false
 hasItem i (a ∷ rest) = eqb (a .0) i || hasItem i rest
 
 -- the others
-abbrev pub without : ℕ → Amounts → Amounts
-without i [] = []
-without i (a ∷ rest) = cond (eqb (a .0) i) (without i rest) (a ∷ without i rest)
+abbrev pub withoutItem : ℕ → Amounts → Amounts
+withoutItem i [] = []
+withoutItem i (a ∷ rest) = cond (eqb (a .0) i) (withoutItem i rest) (a ∷ withoutItem i rest)
 
 -- what the calls so far leave: how many item numbers they have given, and the amounts
 pub record Sheet : Type 0 where
@@ -51,7 +51,7 @@ isSheetFull s = not (ltb (length (s .amounts)) mostAmounts) || eqb (s .given) la
 
 abbrev pub outcome : Currency → Sheet → TallyCall → Outcome
 outcome c s (adds S t) = record { report = addReport S c (isSheetFull s) (s .given) (sumOf (withNext s t)) t; sheet = record { given = suc (s .given); amounts = withNext s t } }
-outcome c s (removes S i) = record { report = removeReport S c (hasItem i (s .amounts)) (sumOf (without i (s .amounts))); sheet = record { given = s .given; amounts = without i (s .amounts) } }
+outcome c s (removes S i) = record { report = removeReport S c (hasItem i (s .amounts)) (sumOf (withoutItem i (s .amounts))); sheet = record { given = s .given; amounts = withoutItem i (s .amounts) } }
 
 -- what a list of calls leaves, the newest first, each with the buffer that was lent for its phrase: a refused one leaves all as it was
 unfoldable pub sheetAfter : Currency → List (TallyCall × List ℕ) → Sheet

@@ -75,24 +75,24 @@ abbrev pub nextPlace : Tally → List ℕ → Place
 nextPlace T t = record { item = suc (T .given); whole = wholeOf t; hundredths = hundredthsOf t }
 
 -- a tally with it in the first free place
-abbrev pub added : Tally → List ℕ → Tally
-added T t = record { currency = T .currency; given = suc (T .given); places = exchanged 0 (nextPlace T t) (T .places) }
+abbrev pub withAmount : Tally → List ℕ → Tally
+withAmount T t = record { currency = T .currency; given = suc (T .given); places = exchanged 0 (nextPlace T t) (T .places) }
 
 abbrev pub adding : Settings → Option Tally → List ℕ → Move
 adding S none t = record { report = noTallyReport S; after = [] }
-adding S (some T) t = record { report = addReport S (T .currency) (isFull T) (T .given) (sumIn (added T t .places)) t; after = tallyBytes (added T t) }
+adding S (some T) t = record { report = addReport S (T .currency) (isFull T) (T .given) (sumIn (withAmount T t .places)) t; after = tallyBytes (withAmount T t) }
 
 -- an amount is held under this item number; 0 is none
 abbrev pub isHeld : ℕ → Tally → Bool
 isHeld i T = not (eqb i 0) && isUnder i (T .places)
 
 -- a tally whose place with this item number is free again
-abbrev pub removed : Tally → ℕ → Tally
-removed T i = record { currency = T .currency; given = T .given; places = exchanged i freePlace (T .places) }
+abbrev pub withoutAmount : Tally → ℕ → Tally
+withoutAmount T i = record { currency = T .currency; given = T .given; places = exchanged i freePlace (T .places) }
 
 abbrev pub removing : Settings → Option Tally → ℕ → Move
 removing S none i = record { report = noTallyReport S; after = [] }
-removing S (some T) i = record { report = removeReport S (T .currency) (isHeld i T) (sumIn (removed T i .places)); after = tallyBytes (removed T i) }
+removing S (some T) i = record { report = removeReport S (T .currency) (isHeld i T) (sumIn (withoutAmount T i .places)); after = tallyBytes (withoutAmount T i) }
 
 -- a call on a tally: adding a text or removing an item, under any settings
 pub data TallyCall : Type 0 where

@@ -19,7 +19,7 @@ ghost use Rattle.figures.specs.Refusals.{amountRefusals, Admitted};
 ghost use Rattle.uk_money.specs.Rows.{currencyAt};
 ghost use Rattle.tally.specs.Layout.{tallyOf};
 ghost use Rattle.tally_calls.specs.TallyCalls.{adding, removing, adds, removes, moveOf};
-ghost use Rattle.tally_calls.specs.Changes.{weighing, Weighs, Decides};
+ghost use Rattle.tally_calls.specs.Changes.{weighing, Weighs, Prepares};
 
 // What a call on a tally comes to: its refusal and its phrase's length; and where it refuses nothing what is to be stored, how many item numbers are given
 // then, and a place.
@@ -92,7 +92,7 @@ fn add_amount(
     out: &mut [u8],
 ) -> Change
     requires { ⌜ Within (ukrainianRanges settings) × (currency < 44) × (837 ≤ length (now tally)) × Admitted (amountRefusals (now text)) × (getD (now tally) 0 0 ≡ suc currency) ⌝ }
-    ensures { λ r. ⌜ Decides r (now (tally .entry)) (now (out .entry)) (now (out .exit)) (adding settings (tallyOf (some (currencyAt currency)) (now (tally .entry))) (now (text .entry))) ⌝ }
+    ensures { λ r. ⌜ Prepares r (now (tally .entry)) (now (out .entry)) (now (out .exit)) (adding settings (tallyOf (some (currencyAt currency)) (now (tally .entry))) (now (text .entry))) ⌝ }
 {
     let given = tally::given_by(tally);
     let at = tally::find(tally, 0);
@@ -115,7 +115,7 @@ fn remove_item(
     out: &mut [u8],
 ) -> Change
     requires { ⌜ Within (ukrainianRanges settings) × (currency < 44) × (837 ≤ length (now tally)) × (getD (now tally) 0 0 ≡ suc currency) ⌝ }
-    ensures { λ r. ⌜ Decides r (now (tally .entry)) (now (out .entry)) (now (out .exit)) (removing settings (tallyOf (some (currencyAt currency)) (now (tally .entry))) item) ⌝ }
+    ensures { λ r. ⌜ Prepares r (now (tally .entry)) (now (out .entry)) (now (out .exit)) (removing settings (tallyOf (some (currencyAt currency)) (now (tally .entry))) item) ⌝ }
 {
     let at = tally::find(tally, item);
     if item != 0 {
@@ -138,7 +138,7 @@ pub fn add_to(
     text: &[u8],
     out: &mut [u8],
 ) -> Change
-    ensures { λ r. ⌜ Decides r (now (tally .entry)) (now (out .entry)) (now (out .exit)) (moveOf (adds (ukrainianSettings gender number case apostrophe style) (now (text .entry))) (now (tally .entry))) ⌝ }
+    ensures { λ r. ⌜ Prepares r (now (tally .entry)) (now (out .entry)) (now (out .exit)) (moveOf (adds (ukrainianSettings gender number case apostrophe style) (now (text .entry))) (now (tally .entry))) ⌝ }
 {
     if settings::is_ukrainian(gender, number, case, apostrophe, style) {
         let currency = tally::currency_of(tally);
@@ -166,7 +166,7 @@ pub fn remove_from(
     tally: &[u8],
     out: &mut [u8],
 ) -> Change
-    ensures { λ r. ⌜ Decides r (now (tally .entry)) (now (out .entry)) (now (out .exit)) (moveOf (removes (ukrainianSettings gender number case apostrophe style) item) (now (tally .entry))) ⌝ }
+    ensures { λ r. ⌜ Prepares r (now (tally .entry)) (now (out .entry)) (now (out .exit)) (moveOf (removes (ukrainianSettings gender number case apostrophe style) item) (now (tally .entry))) ⌝ }
 {
     if settings::is_ukrainian(gender, number, case, apostrophe, style) {
         let currency = tally::currency_of(tally);

@@ -17,8 +17,8 @@ use Rattle.uk_money.specs.Currencies.{Currency}
 use Rattle.uk_money_calls.specs.MoneyCalls.{moneyPhrase}
 use Rattle.tally.specs.Tally.{Tally, sumIn}
 use Rattle.tally.specs.Layout.{tallyIn}
-use Rattle.tally_calls.specs.TallyCalls.{sumPhrase, passesLimit, addReport, removeReport, isFull, added, adding, isHeld, removed, removing, TallyCall, adds, removes, moveOf, Tallies}
-use Rattle.tally_calls.specs.History.{sumOf, without, hasItem, Sheet, isSheetFull, withNext, outcome, sheetAfter, itemAfter}
+use Rattle.tally_calls.specs.TallyCalls.{sumPhrase, passesLimit, addReport, removeReport, isFull, withAmount, adding, isHeld, withoutAmount, removing, TallyCall, adds, removes, moveOf, Tallies}
+use Rattle.tally_calls.specs.History.{sumOf, withoutItem, hasItem, Sheet, isSheetFull, withNext, outcome, sheetAfter, itemAfter}
 use Rattle.tally_calls.specs.Run.{Run}
 use Rattle.tally_calls.specs.declared.Tallied.{Tallied}
 use Rattle.tally_calls.proofs.Theorem as tally-theorem
@@ -72,12 +72,12 @@ module _ (P : ℕ → Type 0) (none-is : P 0) (setting-is : P wrongSetting) (roo
       where
         go : (T : Option Tally) → P (numberOf (replied (adding S T t .report .spelling) xs))
         go none = no-tally-is S xs
-        go (some T) = add-is text sign size full-is sum-is S (T .currency) (isFull T) (T .given) (sumIn (added T t .places)) t xs
+        go (some T) = add-is text sign size full-is sum-is S (T .currency) (isFull T) (T .given) (sumIn (withAmount T t .places)) t xs
     call-is text sign size full-is sum-is held-is (removes S i) ts xs = go (tallyIn ts)
       where
         go : (T : Option Tally) → P (numberOf (replied (removing S T i .report .spelling) xs))
         go none = no-tally-is S xs
-        go (some T) = remove-is held-is sum-is S (T .currency) (isHeld i T) (sumIn (removed T i .places)) xs
+        go (some T) = remove-is held-is sum-is S (T .currency) (isHeld i T) (sumIn (withoutAmount T i .places)) xs
 
 -- every number that a call on any bytes answers with is one of the table, or 0
 pub tally-number-known : (call : TallyCall) (ts xs ys : List ℕ) (r : Tallied) → Tallies r xs ys (moveOf call ts .report) → r .refusal ≤ notHeld
@@ -105,4 +105,4 @@ removing-gives {c} {es} run S i xs ys r a =
     let s = sheetAfter c es in
     rw (answer-by-list run (removes S i) a .reported)
     (remove-within (OneOf (0 ∷ wrongSetting ∷ notHeld ∷ noRoom ∷ [])) (inl refl) (inr (inl refl)) (inr (inr (inr (inl refl)))) (inr (inr (inl refl)))
-    S c (hasItem i (s .amounts)) (sumOf (without i (s .amounts))) xs (tally-theorem.fewer-within i (s .amounts) (tally-theorem.sum-within c es)))
+    S c (hasItem i (s .amounts)) (sumOf (withoutItem i (s .amounts))) xs (tally-theorem.fewer-within i (s .amounts) (tally-theorem.sum-within c es)))

@@ -10,7 +10,7 @@ use borrow.Author.Needs.{needs}
 use borrow.Author.Tests.{not-true, not-false}
 use Rattle.figures.specs.Money.{moneyLimit}
 use Rattle.tally.specs.Tally.{inHundredths, sumIn}
-use Rattle.tally.proofs.Places.{placeAt, placesOf, places-at, sum-turn, sum-grows, is-beyond, is-within}
+use Rattle.tally.proofs.Places.{placeRead, placesOf, places-at, sum-turn, sum-grows, is-beyond, is-within}
 use Rattle.tally.proofs.sums.plus_places.Statement.{statement}
 use Rattle.tally.proofs.sums.plus_places.Tie as tie
 
@@ -27,7 +27,7 @@ more : (c : tie.In-loop Inv-loop μ-loop) →
     let a = c .before .before .before .before .before .args in
     let i = c .before .loop .i in
     let ps = drop (a .from) (placesOf (a .tally .now)) in
-    let p = placeAt (a .tally .now) i in
+    let p = placeRead (a .tally .now) i in
     sumIn (take (suc (i - a .from)) ps) ≡ sumIn (take (i - a .from) ps) + inHundredths (p .whole) (p .hundredths)
 more c =
     let a = c .before .before .before .before .before .args in
@@ -35,11 +35,11 @@ more c =
     let ps = placesOf (a .tally .now) in
     let j : ℕ = i - a .from in
     let e : a .from + j ≡ i = omega arith in
-    sum-turn (drop (a .from) ps) j (placeAt (a .tally .now) i) (drop (suc i) ps)
+    sum-turn (drop (a .from) ps) j (placeRead (a .tally .now) i) (drop (suc i) ps)
     (drop-drop j (a .from) ps ∙ rw e (places-at (a .tally .now) i (c .before .before .before .before .before .pre .2) (omega arith)))
 
 -- the byte of its hundredths
-byte : (c : tie.In-loop Inv-loop μ-loop) → placeAt (c .before .before .before .before .before .args .tally .now) (c .before .loop .i) .hundredths < 256
+byte : (c : tie.In-loop Inv-loop μ-loop) → placeRead (c .before .before .before .before .before .args .tally .now) (c .before .loop .i) .hundredths < 256
 byte c = omega (arith, c .before .before .before .before .shared-slice-known .given (5 + c .before .loop .i * 13 + 12))
 
 returns : tie.Need-returns Inv-loop μ-loop
