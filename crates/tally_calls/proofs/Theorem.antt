@@ -9,7 +9,7 @@ use native.Mathlib.Omega.{arith}
 use borrow.Author.Tests.{eqb-false, ltb-false, le-ltb}
 use lib.Dec.{eqb, ltb}
 use lib.ListN.{length, drop}
-use Rattle.base.specs.Answer.{noRoom, Reply, refused, bytes, numberOf, lengthOf, bufferOf, replied, Answers}
+use Rattle.base.specs.Answer.{noRoom, Spelling, Reply, refused, bytes, numberOf, lengthOf, bufferOf, unless, replied, Answers}
 use Rattle.base.specs.Buffer.{over}
 use Rattle.base.specs.declared.Answer.{Answer}
 use Rattle.settings.specs.declared.Settings.{Settings}
@@ -23,7 +23,7 @@ use Rattle.uk_money_calls.proofs.Texts.{admits, hundredths-small}
 use Rattle.tally.specs.Tally.{lastItem, Tally, emptyTally, sumIn}
 use Rattle.tally.specs.Layout.{tallyBytes, tallyIn}
 use Rattle.tally.proofs.ReadBack.{tally-read}
-use Rattle.tally_calls.specs.TallyCalls.{Report, Move, passesLimit, opening, adding, removing, isFull, withAmount, isHeld, withoutAmount, TallyCall, adds, removes, moveOf, ifDone, Tallies, tallyAfter, addReport, removeReport}
+use Rattle.tally_calls.specs.TallyCalls.{Report, Move, sumPhrase, passesLimit, settingsOf, opening, adding, removing, isFull, withAmount, isHeld, withoutAmount, TallyCall, adds, removes, moveOf, ifDone, Tallies, tallyAfter, addReport, removeReport}
 use Rattle.tally_calls.specs.History.{Amounts, sumOf, Sheet, outcome, sheetAfter, itemAfter, isSheetFull, withNext, withoutItem, hasItem}
 use Rattle.tally_calls.specs.Run.{Run, opened, then}
 use Rattle.tally_calls.specs.declared.Tallied.{Tallied}
@@ -115,6 +115,15 @@ unfolding sheetAfter
 reached c es ts (opened code xs ys r e a z) = reached-empty c code xs ts r e a z
 reached c es us (then ds ts ws run call xs e) = rw e (step c (sheetAfter c ds) ts xs (reached c ds ts run) call)
 
+-- a reply that refuses nothing is the phrase
+phrase-done : (X : Spelling) (xs : List ℕ) → numberOf (replied X xs) ≡ 0 → replied X xs ≡ bytes (X .phrase)
+phrase-done X xs z = go (X .refusal) (ltb (length xs) (length (X .phrase))) z
+  where
+    go : (n : ℕ) (b : Bool) → numberOf (unless n (cond b (refused noRoom (length (X .phrase))) (bytes (X .phrase)))) ≡ 0 → unless n (cond b (refused noRoom (length (X .phrase))) (bytes (X .phrase))) ≡ bytes (X .phrase)
+    go (suc n) b z = absurd (omega arith)
+    go zero true z = absurd (omega arith)
+    go zero false z = refl
+
 -- without one of the amounts
 pub fewer-within : (i : ℕ) (l : Amounts) → passesLimit (sumOf l) ≡ false → passesLimit (sumOf (withoutItem i l)) ≡ false
 fewer-within i l h = le-ltb moneyLimit (sumOf (withoutItem i l) / 100) (omega (arith, ltb-false moneyLimit (sumOf l / 100) h, out-sum i l))
@@ -127,6 +136,21 @@ module _ (c : Currency) where
   -- each answer, its number, its item number, its length and its phrase, is the one computed from the list before it
   pub answer-by-list : {es : List (TallyCall × List ℕ)} {ts : List ℕ} → Run c es ts → (call : TallyCall) {xs ys : List ℕ} {r : Tallied} → Tallies r xs ys (moveOf call ts .report) → Tallies r xs ys (outcome c (sheetAfter c es) call .report)
   answer-by-list {es} {ts} run call {xs} a = answer-of c (sheetAfter c es) ts xs (reached c es ts run) call a
+
+  -- where a call refuses nothing, its phrase is that of the sum of the list with this call
+  total-said : (s : Sheet) (call : TallyCall) (q : Reply) → q ≡ bytes (outcome c s call .report .spelling .phrase)
+      → bytes (sumPhrase (settingsOf call) c (sumOf (ifDone q (outcome c s call .sheet) s .amounts))) ≡ q
+  total-said s (adds S t) q e = rw e refl
+  total-said s (removes S i) q e = rw e refl
+
+  pub total-spoken : {es : List (TallyCall × List ℕ)} {ts : List ℕ} → Run c es ts → (call : TallyCall) {xs ys : List ℕ} {r : Tallied} → Tallies r xs ys (moveOf call ts .report) → r .refusal ≡ 0
+      → ys ≡ over xs (sumPhrase (settingsOf call) c (sumOf (sheetAfter c ((call, xs) ∷ es) .amounts)))
+  unfolding sheetAfter
+  total-spoken {es} {ts} run call {xs} a z =
+      let b = answer-by-list run call a in
+      let s = sheetAfter c es in
+      let X = outcome c s call .report .spelling in
+      b .held ∙ ap (bufferOf xs) (sym (total-said s call (replied X xs) (phrase-done X xs (sym (b .reported) ∙ z))))
 
   -- item numbers given so far
   abbrev given : List (TallyCall × List ℕ) → ℕ

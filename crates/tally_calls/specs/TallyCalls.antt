@@ -99,6 +99,11 @@ pub data TallyCall : Type 0 where
   adds : Settings → List ℕ → TallyCall
   removes : Settings → ℕ → TallyCall
 
+-- its settings
+abbrev pub settingsOf : TallyCall → Settings
+settingsOf (adds S t) = S
+settingsOf (removes S i) = S
+
 -- what it comes to on these bytes
 abbrev pub moveOf : TallyCall → List ℕ → Move
 moveOf (adds S t) ts = adding S (tallyIn ts) t

@@ -9,6 +9,7 @@ use mathlib.Core.List.{List, [], _∷_, _++_}
 use mathlib.Core.Option.{Option, none, some}
 use native.Mathlib.Omega.{arith}
 use Rattle.base.specs.Answer.{wrongSetting, wrongCode, malformed, wrongSign, tooLarge, noRoom, tallyFull, sumTooLarge, notHeld, numberOf, replied}
+use Rattle.base.specs.Buffer.{over}
 use Rattle.settings.specs.Settings.{ukrainianRanges}
 use Rattle.settings.specs.declared.Settings.{Settings}
 use Rattle.figures.specs.Refusals.{amountRefusals}
@@ -17,7 +18,7 @@ use Rattle.uk_money.specs.Currencies.{Currency}
 use Rattle.uk_money_calls.specs.MoneyCalls.{moneyPhrase}
 use Rattle.tally.specs.Tally.{Tally, sumIn}
 use Rattle.tally.specs.Layout.{tallyIn}
-use Rattle.tally_calls.specs.TallyCalls.{sumPhrase, passesLimit, addReport, removeReport, isFull, withAmount, adding, isHeld, withoutAmount, removing, TallyCall, adds, removes, moveOf, Tallies}
+use Rattle.tally_calls.specs.TallyCalls.{sumPhrase, passesLimit, settingsOf, addReport, removeReport, isFull, withAmount, adding, isHeld, withoutAmount, removing, TallyCall, adds, removes, moveOf, Tallies}
 use Rattle.tally_calls.specs.History.{sumOf, withoutItem, hasItem, Sheet, isSheetFull, withNext, outcome, sheetAfter, itemAfter}
 use Rattle.tally_calls.specs.Run.{Run}
 use Rattle.tally_calls.specs.declared.Tallied.{Tallied}
@@ -31,9 +32,18 @@ module _ {c : Currency} {es : List (TallyCall × List ℕ)} {ts : List ℕ} (run
   pub total-by-list : (T : Tally) × (tallyIn ts ≡ some T) × (T .currency ≡ c) × (sumIn (T .places) ≡ sumOf (sheetAfter c es .amounts))
   total-by-list = tally-theorem.total-by-list c run
 
-  -- each answer is the one computed from the list before it: number, item number, length and phrase, "the money phrase of that sum"
+  -- each answer is the one computed from the list before it: number, item number, length and phrase
   pub answer-by-list : (call : TallyCall) {xs ys : List ℕ} {r : Tallied} → Tallies r xs ys (moveOf call ts .report) → Tallies r xs ys (outcome c (sheetAfter c es) call .report)
   answer-by-list call a = tally-theorem.answer-by-list c run call a
+
+  -- the item number among it
+  pub item-by-list : (call : TallyCall) {xs ys : List ℕ} {r : Tallied} → Tallies r xs ys (moveOf call ts .report) → r .item ≡ itemAfter c es (call, xs)
+  item-by-list call a = answer-by-list call a .itemIs
+
+  -- "and its phrase is the money phrase of that sum": where a call refuses nothing, the buffer has the phrase of the sum of the list with this call
+  pub total-spoken : (call : TallyCall) {xs ys : List ℕ} {r : Tallied} → Tallies r xs ys (moveOf call ts .report) → r .refusal ≡ 0
+      → ys ≡ over xs (sumPhrase (settingsOf call) c (sumOf (sheetAfter c ((call, xs) ∷ es) .amounts)))
+  total-spoken call a z = tally-theorem.total-spoken c run call a z
 
 -- such a phrase is the money call's, of a text that is the sum's (uk_money_calls/specs/MoneyCalls.antt)
 pub spoken-as-money : (S : Settings) (c : Currency) (sum : ℕ) (t : List ℕ) → IsAmount (sum / 100) (sum % 100) t → moneyPhrase S (some c) t ≡ sumPhrase S c sum
