@@ -42,6 +42,13 @@ within-test : (rs : List (ℕ × ℕ)) → Within rs → within rs ≡ true
 within-test [] w = refl
 within-test (r ∷ rs) w = rw (lt-ltb (r .0) (r .1) (w .0), within-test rs (w .1)) refl
 
+-- whether a sum passes the limit
+within-limit : (n : ℕ) → n / 100 ≤ moneyLimit → passesLimit n ≡ false
+within-limit n h = le-ltb _ (n / 100) (omega arith)
+
+pub beyond-limit : (n : ℕ) → moneyLimit < n / 100 → passesLimit n ≡ true
+beyond-limit n h = lt-ltb _ (n / 100) (omega arith)
+
 -- the spelling of a sum that only the limit can refuse
 abbrev sumSpelling : Settings → Currency → ℕ → Spelling
 sumSpelling S c sum = record { refusal = firstOf ((passesLimit sum, sumTooLarge) ∷ []); phrase = sumPhrase S c sum }
@@ -52,8 +59,7 @@ pub spoken : (S : Settings) (c : Currency) (n whole part : ℕ) {r : Answer} {xs
 spoken S c n whole part e h l a =
     let q : n / 100 ≡ whole = omega arith in
     let p : n % 100 ≡ part = omega arith in
-    let f : passesLimit n ≡ false = le-ltb moneyLimit (n / 100) (omega (arith, q)) in
-    rw (f, q, p) a
+    rw (within-limit n (omega (arith, q)), q, p) a
 
 -- a refusal that reports no length is the one of a spelling with this refusal, and of a call with this spelling
 module _ (d : Change) (n : ℕ) (a : (d .refusal ≡ n) × (d .length ≡ 0)) (other : n ≡ 0 → ⊥) where

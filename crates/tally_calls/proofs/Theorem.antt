@@ -126,7 +126,7 @@ phrase-done X xs z = go (X .refusal) (ltb (length xs) (length (X .phrase))) z
 
 -- without one of the amounts
 pub fewer-within : (i : ℕ) (l : Amounts) → passesLimit (sumOf l) ≡ false → passesLimit (sumOf (withoutItem i l)) ≡ false
-fewer-within i l h = le-ltb moneyLimit (sumOf (withoutItem i l) / 100) (omega (arith, ltb-false moneyLimit (sumOf l / 100) h, out-sum i l))
+fewer-within i l h = le-ltb _ (sumOf (withoutItem i l) / 100) (omega (arith, ltb-false _ (sumOf l / 100) h, out-sum i l))
 
 module _ (c : Currency) where
   -- "the total is the sum of amounts added and not removed, computed from that list"

@@ -49,6 +49,7 @@ withNext s t = (suc (s .given), inHundredths (wholeOf t) (hundredthsOf t)) ∷ s
 abbrev pub isSheetFull : Sheet → Bool
 isSheetFull s = not (ltb (length (s .amounts)) mostAmounts) || eqb (s .given) lastItem
 
+-- each call, by the rules that hold of a tally
 abbrev pub outcome : Currency → Sheet → TallyCall → Outcome
 outcome c s (adds S t) = record { report = addReport S c (isSheetFull s) (s .given) (sumOf (withNext s t)) t; sheet = record { given = suc (s .given); amounts = withNext s t } }
 outcome c s (removes S i) = record { report = removeReport S c (hasItem i (s .amounts)) (sumOf (withoutItem i (s .amounts))); sheet = record { given = s .given; amounts = withoutItem i (s .amounts) } }

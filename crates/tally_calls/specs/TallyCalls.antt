@@ -21,11 +21,12 @@ use Rattle.tally.specs.Layout.{tallyBytes, tallyIn}
 use Rattle.tally.specs.declared.Place.{Place}
 use Rattle.tally_calls.specs.declared.Tallied.{Tallied}
 
--- opening: the empty tally of a code's currency, "2 if the code isn't valid"
+-- the bytes of a currency's empty tally; in none there are none
 abbrev pub emptyBytes : Option Currency → List ℕ
 emptyBytes none = []
 emptyBytes (some c) = tallyBytes (emptyTally c)
 
+-- opening a tally by a code: "2 if the code isn't valid"
 abbrev pub opening : List ℕ → Spelling
 opening code = record { refusal = firstOf (unknown (currencyOf code) ∷ []); phrase = emptyBytes (currencyOf code) }
 
@@ -78,6 +79,7 @@ nextPlace T t = record { item = suc (T .given); whole = wholeOf t; hundredths = 
 abbrev pub withAmount : Tally → List ℕ → Tally
 withAmount T t = record { currency = T .currency; given = suc (T .given); places = exchanged 0 (nextPlace T t) (T .places) }
 
+-- adding a text to a tally, if there is one
 abbrev pub adding : Settings → Option Tally → List ℕ → Move
 adding S none t = record { report = noTallyReport S; after = [] }
 adding S (some T) t = record { report = addReport S (T .currency) (isFull T) (T .given) (sumIn (withAmount T t .places)) t; after = tallyBytes (withAmount T t) }
@@ -90,6 +92,7 @@ isHeld i T = not (eqb i 0) && isUnder i (T .places)
 abbrev pub withoutAmount : Tally → ℕ → Tally
 withoutAmount T i = record { currency = T .currency; given = T .given; places = exchanged i freePlace (T .places) }
 
+-- removing an item from a tally, if there is one
 abbrev pub removing : Settings → Option Tally → ℕ → Move
 removing S none i = record { report = noTallyReport S; after = [] }
 removing S (some T) i = record { report = removeReport S (T .currency) (isHeld i T) (sumIn (withoutAmount T i .places)); after = tallyBytes (withoutAmount T i) }
@@ -104,7 +107,7 @@ abbrev pub settingsOf : TallyCall → Settings
 settingsOf (adds S t) = S
 settingsOf (removes S i) = S
 
--- what it comes to on these bytes
+-- what it comes to on the bytes ts of a tally
 abbrev pub moveOf : TallyCall → List ℕ → Move
 moveOf (adds S t) ts = adding S (tallyIn ts) t
 moveOf (removes S i) ts = removing S (tallyIn ts) i

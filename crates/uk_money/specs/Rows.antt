@@ -1,5 +1,6 @@
 -- The code's row of a unit's name: the places of its adjective's stem, 0 for none, and of its noun's, the number of the noun's class, and the
--- gender; and a code as one number. These only tie the code to the tables.
+-- gender; and a code as one number. These only tie the code to the tables, but that a
+-- tally keeps its currency's place (`currencyAt`, `codePlace`).
 -- Assumes nothing.
 use Prim.Native.Nat.{ℕ, zero, suc, _+_, _*_, _/_, _%_, _<_}
 use mathlib.Core.Path.{_≡_}

@@ -3,8 +3,7 @@
 use mathlib.Core.Path.{refl, sym, _∙_}
 use native.Mathlib.Omega.{arith}
 use borrow.Author.Needs.{needs}
-use borrow.Author.Tests.{lt-ltb}
-use Rattle.tally_calls.proofs.Decisions.{spoken, weighs-refused}
+use Rattle.tally_calls.proofs.Decisions.{beyond-limit, spoken, weighs-refused}
 use Rattle.tally_calls.proofs.deciding.weigh.Statement.{statement}
 use Rattle.tally_calls.proofs.deciding.weigh.Tie as tie
 
@@ -17,7 +16,7 @@ returns c =
 returns-2 : tie.Need-returns-2
 returns-2 c =
     let u = c .unchanged .ensures in
-    (weighs-refused _ 9 u (λ e. omega arith) _ _ (rw (lt-ltb _ _ (c .before .before .sum-with .ensures .0 .ifBeyond (c .before .if1 .left))) refl), λ z. absurd (omega (arith, sym (u .0) ∙ z)))
+    (weighs-refused _ 9 u (λ e. omega arith) _ _ (rw (beyond-limit _ (c .before .before .sum-with .ensures .0 .ifBeyond (c .before .if1 .left))) refl), λ z. absurd (omega (arith, sym (u .0) ∙ z)))
 
 pub weigh-spec : {M : Type 1} → statement M
 weigh-spec = tie.close (tie.spec (λ c κs. search needs) (λ c κs. search needs) (λ c. search needs) returns (λ c κs. search needs) returns-2)
