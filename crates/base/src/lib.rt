@@ -1,3 +1,4 @@
+#![tactic(auto)]
 // What every crate shares: a call's answer, a measure, casts, and loads of several bytes.
 pub mod loads; // loads.rt: two, four and eight bytes at a time
 

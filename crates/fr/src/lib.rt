@@ -1,3 +1,4 @@
+#![tactic(auto)]
 // The French words and rules that speller and reader share: the places of the words, and the tests of document 01's rules.
 mod places; // places.rt: the tables of words, with the place of each
 mod pool; // pool.rt: the texts

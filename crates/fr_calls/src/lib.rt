@@ -1,3 +1,4 @@
+#![tactic(auto)]
 // French cardinals and ordinals from bytes to bytes, both ways, and their measures. No phrase is longer than the room that the program keeps for an answer.
 ghost use Rattle.std.specs.Prelude.{◌≡◌, true, ◌≤◌, length};
 ghost use Rattle.base.specs.Answer.{fitted, replied, Answers};

@@ -1,3 +1,4 @@
+#![tactic(auto)]
 // What the words of the French numbers mean, by their keys.
 mod shifts;
 mod table;

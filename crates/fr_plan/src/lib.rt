@@ -1,3 +1,4 @@
+#![tactic(auto)]
 // The plans of French cardinals and ordinals, from groups of three digits, the lowest first.
 ghost use Rattle.std.specs.Prelude.{◌≡◌, ◌&&◌, ◌∷◌, ◌++◌, ◌+◌, ◌*◌, ◌≤◌, ◌<◌, eqb, length};
 ghost use Rattle.words.specs.Part.{part};

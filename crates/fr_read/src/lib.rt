@@ -1,3 +1,4 @@
+#![tactic(auto)]
 // Readers of French phrases. The meanings of the words are added up, leniently, to a number; then the number's own phrase, by the speller's
 // plan, is held against the bytes. So everything that depends on a setting stands in the planner alone.
 ghost use Rattle.std.specs.Prelude.{◌≡◌, ◌∷◌, ◌++◌, ℕ, ◌+◌, ◌-◌, ◌%◌, ◌≤◌, ◌<◌, eqb, ltb, length, drop, replicate};

@@ -1,3 +1,4 @@
+#![tactic(auto)]
 // A number as groups of three digits, the lowest first.
 ghost use Rattle.std.specs.Prelude.{◌≡◌, true, [], ◌∷◌, ◌+◌, ◌-◌, ◌/◌, ◌≤◌, ◌<◌, eqb, length, take, get_or, replicate};
 ghost use Rattle.figures.specs.Text.{digits, value};

@@ -1,3 +1,4 @@
+#![tactic(auto)]
 // The way back to a text: the number text of groups, written to a lent buffer.
 pub mod money; // money.rt: the money text of groups and hundredths
 

@@ -1,3 +1,4 @@
+#![tactic(auto)]
 // What the program writes to a line.
 mod french;
 mod ukrainian;

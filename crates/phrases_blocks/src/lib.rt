@@ -1,3 +1,4 @@
+#![tactic(auto)]
 // Standard input answered on standard output, block by block.
 ghost use Rattle.std.specs.Prelude.{◌≡◌, true, ◌≤◌, length, take};
 ghost use Rattle.base.specs.Room.{line_room};

@@ -1,3 +1,4 @@
+#![tactic(auto)]
 // The form of a line: its words, the names that they are, and runs.
 pub mod names;
 pub mod runs;

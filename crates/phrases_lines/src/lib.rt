@@ -1,3 +1,4 @@
+#![tactic(auto)]
 // The program over blocks of its input: a line is gathered, and answered at its end.
 ghost use Rattle.std.specs.Prelude.{◌≡◌, true, [], ◌∷◌, ◌+◌, ◌≤◌, ◌<◌, length, take, drop};
 ghost use Rattle.base.specs.Buffer.{over};

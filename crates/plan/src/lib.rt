@@ -1,3 +1,4 @@
+#![tactic(auto)]
 // Plans: a phrase is planned piece by piece, then measured, written, or compared with a text. Every kind of phrase goes through these functions; the
 // texts of its pieces are parts of a pool, which the caller lends.
 pub mod measure; // measure.rt: the figures of a phrase

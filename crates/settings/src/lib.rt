@@ -1,3 +1,4 @@
+#![tactic(auto)]
 // The settings of a call, of both languages, in one record that goes by value: small numbers, so that a copy costs little.
 ghost use Rattle.std.specs.Prelude.{◌≡◌, true, ◌<◌};
 ghost use Rattle.settings.specs.Settings.{ukrainian_settings, french_settings, ukrainian_ranges, french_ranges, within, in_gender, in_form};

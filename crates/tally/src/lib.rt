@@ -1,3 +1,4 @@
+#![tactic(auto)]
 // A tally's bytes: its currency, its places, their sum, and what a call stores.
 pub mod sums; // sums.rt: the sum of places
 mod stores; // stores.rt: numbers as bytes

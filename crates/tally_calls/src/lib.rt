@@ -1,3 +1,4 @@
+#![tactic(auto)]
 // The calls on a tally: a call is decided on the tally as it lies there, with the new total's phrase written to the lent buffer, and only then the tally is
 // changed.
 pub mod deciding; // deciding.rt: what is refused, in 02's order, and what is to be stored

@@ -1,3 +1,4 @@
+#![tactic(auto)]
 // Previews of the calls on a tally: what adding and removing would answer. They are decided as those are, on a tally that is only read, and nothing is
 // stored.
 ghost use Rattle.settings.specs.Settings.{ukrainian_settings};

@@ -1,3 +1,4 @@
+#![tactic(auto)]
 // A text taken word by word: the first word's key, and where the next word starts.
 ghost use Rattle.std.specs.Prelude.{◌≡◌, cond, ◌+◌, ◌≤◌, ◌<◌, ◌%◌, ltb, length};
 ghost use Rattle.tokens.specs.Tokens.{Begun, Took};

@@ -1,3 +1,4 @@
+#![tactic(auto)]
 // Ukrainian: the places of the words by value and settings, and the rules that the code decides. Speller and reader see the contracts alone.
 mod places; // places.rt: the tables of uk.rs, with the place of each text
 mod pool; // pool.rt: the texts

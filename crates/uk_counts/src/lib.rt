@@ -1,3 +1,4 @@
+#![tactic(auto)]
 // The words that count a scale in a compound: which of them stands at the front of some bytes. Made by tools/gen_counts.py.
 mod counts;
 mod leads;

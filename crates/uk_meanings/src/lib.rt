@@ -1,3 +1,4 @@
+#![tactic(auto)]
 // What the words of the Ukrainian numbers mean, by their keys.
 mod shifts;
 mod table;

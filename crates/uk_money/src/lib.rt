@@ -1,3 +1,4 @@
+#![tactic(auto)]
 // Ukrainian money: the currency of a code, and the places of the stems and endings of its nouns. Speller and reader see the contracts alone.
 mod codes; // codes.rt: the 44 codes
 mod places; // places.rt: the nouns' tables, with the place of each text

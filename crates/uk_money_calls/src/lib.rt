@@ -1,3 +1,4 @@
+#![tactic(auto)]
 // Ukrainian money from bytes to bytes, both ways, and its measure: settings, code, text, sign, size and room are checked in 01's order. No phrase is longer than
 // the room that the program keeps for an answer.
 ghost use Rattle.std.specs.Prelude.{◌≤◌, ◌<◌, ◌≡◌};

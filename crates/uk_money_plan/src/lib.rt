@@ -1,3 +1,4 @@
+#![tactic(auto)]
 // The plan of an amount of Ukrainian money, from the groups of its whole part, lowest order first, and its hundredths.
 ghost use Rattle.std.specs.Prelude.{◌≡◌, [], ◌∷◌, ◌++◌, ◌+◌, ◌*◌, ◌/◌, ◌%◌, ◌≤◌, ◌<◌, length, get_or, eqb};
 ghost use Rattle.settings.specs.Settings.{ukrainian_ranges, Within};

@@ -1,3 +1,4 @@
+#![tactic(auto)]
 // The reader of Ukrainian money. It takes any bytes word by word, makes a whole part of the number words before the first noun and hundredths
 // of those after it, and compares the words that these have under the settings, planned as the speller plans them, with the bytes; then the
 // same for hundredths alone.

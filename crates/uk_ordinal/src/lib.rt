@@ -1,3 +1,4 @@
+#![tactic(auto)]
 // Ukrainian ordinals and years: the places of their stems, endings and words, and the rule that the code decides. The speller sees the contracts
 // alone.
 mod places; // places.rt: the tables of uk.rs, with the place of each text

@@ -1,3 +1,4 @@
+#![tactic(auto)]
 // Ukrainian ordinals, digit ordinals and years from bytes to bytes, and their measures; of ordinals and years the way back. No phrase is longer than the room that the program keeps for an answer.
 mod digits; // digits.rt: digit ordinals
 pub mod reading; // reading.rt: the way back

@@ -1,3 +1,4 @@
+#![tactic(auto)]
 // What the stems of the Ukrainian ordinals mean, by their keys.
 mod shifts;
 mod table;

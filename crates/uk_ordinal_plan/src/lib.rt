@@ -1,3 +1,4 @@
+#![tactic(auto)]
 // The plans of Ukrainian ordinals and years. A number comes as its groups of three digits, lowest order first.
 mod compound;
 mod plain;

@@ -1,3 +1,4 @@
+#![tactic(auto)]
 // The reader of Ukrainian ordinals and years, as taught in school. It takes any bytes: of the words before the last it makes groups, as the reader of
 // cardinals does, adds what the last word says, and compares the words that these groups have under the settings, planned as the speller plans them,
 // with the bytes.

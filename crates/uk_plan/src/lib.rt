@@ -1,3 +1,4 @@
+#![tactic(auto)]
 // The plan of a Ukrainian cardinal, from its groups of three digits, lowest order first.
 ghost use Rattle.std.specs.Prelude.{◌≡◌, ◌+◌, ◌-◌, ◌*◌, ◌≤◌, ◌<◌, length, eqb};
 ghost use Rattle.settings.specs.Settings.{ukrainian_ranges, Within};

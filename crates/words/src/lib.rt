@@ -1,3 +1,4 @@
+#![tactic(auto)]
 // Texts as parts of a pool, which a caller lends: their lengths and spaces, their bytes, and whether a phrase begins with one. Of a text of 8 to 16 bytes
 // two moves are made, which may overlap.
 mod moves; // moves.rt: two, four and eight bytes at a time

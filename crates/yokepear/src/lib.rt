@@ -1,3 +1,4 @@
+#![tactic(auto)]
 // The calls for a host in C. Each hands on to the crate of its kind. The contracts say all that a host may rely on, by the list of calls
 // (specs/Calls.antt), and have no `requires`: of the host it is asked only, as of any caller in Rattle, that out does not overlap what is read
 // (include/yokepear.h).
