@@ -2,7 +2,7 @@
 -- Assumes nothing.
 use Prim.Native.Nat.{ℕ, zero, suc}
 use mathlib.Core.Path.{◌≡◌, refl, sym}
-use mathlib.Core.Bool.{true, false, not, and_true, and_false}
+use mathlib.Core.Bool.{true, false, not, and-true, and-false}
 use native.Mathlib.Omega.{arith}
 use borrow.Author.Tests.{eq-eqb, ne_eqb}
 use lib.Dec.{eqb}
@@ -35,13 +35,13 @@ module _ (S : Settings) where
 
   module _ (k u : ℕ) where
     pub une_lowest : k ≡ 0 → u ≡ 1 → eqb S.gender feminine ≡ is_une S k u
-    une_lowest e o = rw (e, eq-eqb u 1 o) (sym (and_true (is_feminine S)))
+    une_lowest e o = rw (e, eq-eqb u 1 o) (sym (and-true (is_feminine S)))
 
     pub une_above : (k ≡ 0 → ⊥) → false ≡ is_une S k u
     une_above n = rw (lowest_not k n) refl
 
     pub une_other : (u ≡ 1 → ⊥) → false ≡ is_une S k u
-    une_other n = rw (ne_eqb u 1 n, and_false (is_feminine S), and_false (is_lowest k)) refl
+    une_other n = rw (ne_eqb u 1 n, and-false (is_feminine S), and-false (is_lowest k)) refl
 
   pub on_seven : (t : ℕ) → S.region ≡ 0 → t ≡ 7 → true ≡ counts_on S t
   on_seven t e f = rw (eq-eqb S.region 0 e, eq-eqb t 7 f) refl

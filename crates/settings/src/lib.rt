@@ -5,7 +5,7 @@ ghost use Rattle.settings.specs.Settings.{ukrainian_settings, french_settings, u
 ghost use Rattle.settings.specs.Packed.{settings_in};
 
 // 01's numbers of a call's settings. A language leaves the fields that it does not have at 0.
-#[derive(Drop)]
+#[derive(Clone, Copy)]
 pub struct Settings {
     pub gender: u8,
     pub number: u8,

@@ -17,7 +17,7 @@ use stores::put;
 use uk_money::CURRENCIES;
 
 // An amount under its item number, 0 for none.
-#[derive(Drop)]
+#[derive(Clone, Copy)]
 pub struct Place {
     pub item: u32,
     pub whole: u64,

@@ -16,7 +16,7 @@ use uk_money::CURRENCIES;
 
 // What a call on a tally comes to: its refusal and its phrase's length; and where it refuses nothing what is to be stored, how many item numbers are given
 // then, and a place.
-#[derive(Drop)]
+#[derive(Clone, Copy)]
 pub struct Change {
     pub refusal: u32,
     pub length: usize,

@@ -8,7 +8,7 @@ ghost use Rattle.walker.specs.Step.{step_of};
 
 use tokens::Token;
 
-#[derive(Drop)]
+#[derive(Clone, Copy)]
 pub struct Walker<'a> {
     pub phrase: &'a [u8],
     pub at: usize,

@@ -3,7 +3,7 @@
 use Rattle.std.proofs.Common.{◌≡◌, ℕ, zero, suc, ◌+◌, ◌-◌, ◌*◌, ◌/◌, ◌%◌, ◌^◌, ◌<◌, ◌≤◌, Bool, true, false, ◌&&◌, ltb, leb, List, [], ◌∷◌, ◌++◌, length, get_or, take, drop, sym, refl, ap, ◌∙◌, add_assoc, mul_assoc, add-mul, mul-le-mul_left, pow-suc, add-one, arith, length-append, take-append-drop, drop-cons, take-suc, pow-add, ltb-false, ltb-true, lt-ltb, le-leb, leb-true}
 use native.Mathlib.Nat.{one-le-pow, pow-succ'}
 use native.Mathlib.Decide.{dec_lt}
-use mathlib.Core.Bool.{and_false, and-eq-true_iff}
+use mathlib.Core.Bool.{and-false, and-eq-true_iff}
 use lib.Arith.{digits_lt, digits_div, digits_mod}
 use borrow.Author.Tests.{lt-leb}
 use Rattle.figures.specs.Text.{digit, digits, value}
@@ -72,7 +72,7 @@ farther m p b h = go (ltb p 10) refl
   where
     go : (t : Bool) → ltb p 10 ≡ t → (ltb m 10 && (t && b)) ≡ (t && b)
     go true q = let l : p < 10 = ltb-true p 10 q in rw (lt-ltb m 10 (omega arith)) refl
-    go false q = and_false (ltb m 10)
+    go false q = and-false (ltb m 10)
 
 nearer : (m p : ℕ) (b : Bool) → p ≤ m → (ltb m 10 && (ltb p 10 && b)) ≡ (ltb m 10 && b)
 nearer m p b h = go (ltb m 10) refl

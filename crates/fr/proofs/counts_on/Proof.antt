@@ -8,6 +8,6 @@ pub counts_on_spec : {M : Type 1} → statement M
 counts_on_spec =
     tie.close
     (tie.spec
-    (λ c. on_seven c.before.before.before.args.settings c.before.before.before.args.t c.before.if1.true c.if2.true)
-    (λ c. on_nine c.before.before.before.args.settings c.before.before.before.args.t c.before.if1.true c.if2.false)
-    (λ c. on_elsewhere c.before.before.args.settings c.before.before.args.t c.if1.false))
+    (λ c. on_seven c.before.before.before.args.settings c.before.before.before.args.t c.before.if-settings-eq-FR.true c.if-t-eq7.true)
+    (λ c. on_nine c.before.before.before.args.settings c.before.before.before.args.t c.before.if-settings-eq-FR.true c.if-t-eq7.false)
+    (λ c. on_elsewhere c.before.before.args.settings c.before.before.args.t c.if-settings-eq-FR.false))

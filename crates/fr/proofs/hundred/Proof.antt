@@ -12,6 +12,6 @@ hundred_spec =
     tie.close
     (tie.spec
     (λ c. search rules) (λ c. search rules) (λ c. search rules)
-    (λ c. let s = c.before.before.before in hundred_word s.args.settings s.args.h true s.requires.0 s.requires.1 (eq-eqb _ 1 c.before.if1.true))
+    (λ c. let s = c.before.before.before in hundred_word s.args.settings s.args.h true s.requires.0 s.requires.1 (eq-eqb _ 1 c.before.if-settings-eq-REFORMED.true))
     (λ c. search rules) (λ c. search rules) (λ c. search rules)
-    (λ c. let s = c.before.before.before in hundred_word s.args.settings s.args.h false s.requires.0 s.requires.1 (ne_eqb _ 1 c.before.if1.false)))
+    (λ c. let s = c.before.before.before in hundred_word s.args.settings s.args.h false s.requires.0 s.requires.1 (ne_eqb _ 1 c.before.if-settings-eq-REFORMED.false)))

@@ -11,6 +11,6 @@ hundreds_spec =
     tie.close
     (tie.spec
     (λ c κs. search rules) (λ c κs. search rules)
-    (λ c. record { fits = known_fits _ c.before.before.hundred.ensures.more.known })
-    (λ c. let a = c.before.before.before.args in rw (← cents _ _ a.order a.below (sym c.if1.true ∙ c.before.takes_s.ensures)) c.before.before.hundred.ensures.more)
-    (λ c. let a = c.before.before.before.args in rw (← no_cents _ _ a.order a.below (sym c.if1.false ∙ c.before.takes_s.ensures)) c.before.before.hundred.ensures.one))
+    (λ c. record { fits = known_fits _ c.before.before.hundred-p.ensures.more.known })
+    (λ c. let a = c.before.before.before.args in rw (← cents _ _ a.order a.below (sym c.if-takes_s.true ∙ c.before.takes_s.ensures)) c.before.before.hundred-p.ensures.more)
+    (λ c. let a = c.before.before.before.args in rw (← no_cents _ _ a.order a.below (sym c.if-takes_s.false ∙ c.before.takes_s.ensures)) c.before.before.hundred-p.ensures.one))

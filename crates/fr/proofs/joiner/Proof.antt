@@ -8,5 +8,5 @@ pub joiner_spec : {M : Type 1} → statement M
 joiner_spec =
     tie.close
     (tie.spec
-    (λ c. joins_reformed c.before.before.args.settings c.if1.true)
-    (λ c. joins_old c.before.before.args.settings c.if1.false))
+    (λ c. joins_reformed c.before.before.args.settings c.if-settings-eq-REFORMED.true)
+    (λ c. joins_old c.before.before.args.settings c.if-settings-eq-REFORMED.false))

@@ -11,9 +11,9 @@ round_spec =
     tie.close
     (tie.spec
     (λ c κs. search rules)
-    (λ c. let a = c.before.before.args in rw (← round_mille a.settings a.t a.order c.before.if1.true) c.ten.ensures)
+    (λ c. let a = c.before.before.args in rw (← round_mille a.settings a.t a.order c.before.if-order-eq1.true) c.ten.ensures)
     (λ c κs. search rules)
     (λ c. search rules)
-    (λ c. let a = c.before.before.before.args in round_twenties a.settings a.t a.order c.before.before.if1.false (sym c.before.four_twenties.ensures ∙ c.if2.true))
+    (λ c. let a = c.before.before.before.args in round_twenties a.settings a.t a.order c.before.before.if-order-eq1.false (sym c.before.four_twenties.ensures ∙ c.if-four_twenties.true))
     (λ c κs. search rules)
-    (λ c. let a = c.before.before.before.before.args in rw (← round_other a.settings a.t a.order (sym c.before.before.four_twenties.ensures ∙ c.before.if2.false)) c.ten2.ensures))
+    (λ c. let a = c.before.before.before.before.args in rw (← round_other a.settings a.t a.order (sym c.before.before.four_twenties.ensures ∙ c.before.if-four_twenties.false)) c.ten-2.ensures))

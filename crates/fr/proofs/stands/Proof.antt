@@ -11,4 +11,4 @@ stands_spec =
     (λ c κs. search rules)
     (λ c. search rules)
     (λ c κs. search rules)
-    (λ c. rw c.before.before.texts.ensures at c.stands.ensures))
+    (λ c. rw c.before.before.texts-lent.ensures at c.stands.ensures))

@@ -10,5 +10,5 @@ pub takes_s_spec : {M : Type 1} → statement M
 takes_s_spec =
     tie.close
     (tie.spec
-    (λ c. rw c.if1.true (mille_other c.before.args.order))
-    (λ c. rw (ne_eqb _ 0 c.if1.false) refl))
+    (λ c. rw c.if-below-eq0.true (mille_other c.before.args.order))
+    (λ c. rw (ne_eqb _ 0 c.if-below-eq0.false) refl))

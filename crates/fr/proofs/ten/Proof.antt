@@ -11,6 +11,6 @@ ten_spec =
     tie.close
     (tie.spec
     (λ c κs. search rules)
-    (λ c. let a = c.before.before.args in twenties_word a.settings a.t (sym c.before.four_twenties.ensures ∙ c.if1.true))
+    (λ c. let a = c.before.before.args in twenties_word a.settings a.t (sym c.before.four_twenties.ensures ∙ c.if-four_twenties.true))
     (λ c. search rules) (λ c. search rules)
-    (λ c. let s = c.before.before in ten_word_lem s.args.settings s.args.t s.requires.2.1.1.0 s.requires.0 s.requires.1 s.requires.3 (sym c.before.four_twenties.ensures ∙ c.if1.false)))
+    (λ c. let s = c.before.before in ten_word_lem s.args.settings s.args.t s.requires.2.1.1.0 s.requires.0 s.requires.1 s.requires.3 (sym c.before.four_twenties.ensures ∙ c.if-four_twenties.false)))

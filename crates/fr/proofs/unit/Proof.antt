@@ -11,6 +11,6 @@ unit_spec =
     tie.close
     (tie.spec
     (λ c κs. search rules)
-    (λ c. let a = c.before.before.args in une_unit a.settings a.order a.u (sym c.before.is_une.ensures ∙ c.if1.true))
+    (λ c. let a = c.before.before.args in une_unit a.settings a.order a.u (sym c.before.is_une.ensures ∙ c.if-is_une.true))
     (λ c. search rules) (λ c. search rules)
-    (λ c. let s = c.before.before in let a = s.args in plain_unit a.settings a.order a.u s.requires.0 s.requires.1 (sym c.before.is_une.ensures ∙ c.if1.false)))
+    (λ c. let s = c.before.before in let a = s.args in plain_unit a.settings a.order a.u s.requires.0 s.requires.1 (sym c.before.is_une.ensures ∙ c.if-is_une.false)))

@@ -17,18 +17,18 @@ use Rattle.fr_calls.proofs.spell_ordinal.Statement.{statement}
 use Rattle.fr_calls.proofs.spell_ordinal.Tie as tie
 
 -- the text's groups
-grouped : (c : tie.After-count) → Held 34 (unsigned c.before.before.before.before.before.before.args.text.now) c.before.groups34.result c.count.result
+grouped : (c : tie.After-count) → Held 34 (unsigned c.before.before.before.before.before.before.args.text.now) c.before.groups34-gs.result c.count-orders.result
 grouped c =
     let s = c.before.before.before.before.before.before in
-    held_text 34 s.args.text.now _ _ _ s.requires.1 s.requires.2 c.before.before.after_sign.ensures c.before.groups34.ensures c.count.ensures
+    held_text 34 s.args.text.now _ _ _ s.requires.1 s.requires.2 c.before.before.after_sign-digits.ensures c.before.groups34-gs.ensures c.count-orders.ensures
 
-phrase_is : (c : tie.After-plan-ordinal) → let a = c.before.before.before.before.before.before.before.before.before.before.args in phrase_of (says fr_pool c.plan_ordinal.new.1.1.1.1.0 c.plan_ordinal.result) ≡ (fr_to_ordinal a.settings a.text.now).phrase
-phrase_is c = c.plan_ordinal.ensures.1 ∙ ap (nth_phrase _) (grouped c.before.before.before.before).number
+phrase_is : (c : tie.After-plan-ordinal) → let a = c.before.before.before.before.before.before.before.before.before.before.args in phrase_of (says fr_pool c.plan_ordinal-n.new.1.1.1.1.0 c.plan_ordinal-n.result) ≡ (fr_to_ordinal a.settings a.text.now).phrase
+phrase_is c = c.plan_ordinal-n.ensures.1 ∙ ap (nth_phrase _) (grouped c.before.before.before.before).number
 
-plan-ordinal-requires : tie.Need-plan-ordinal-requires
+plan-ordinal-requires : tie.Need-plan_ordinal-n-requires
 plan-ordinal-requires c κs =
     let g = grouped c.before.before.before in
-    (c.before.before.before.before.before.before.texts.ensures, c.before.before.before.before.before.before.before.before.before.requires.0, (g.size, g.below), g.top, search rules)
+    (c.before.before.before.before.before.before.texts-lent.ensures, c.before.before.before.before.before.before.before.before.before.requires.0, (g.size, g.below), g.top, search rules)
 
 pub spell_ordinal_spec : {M : Type 1} → statement M
 spell_ordinal_spec =
@@ -36,12 +36,12 @@ spell_ordinal_spec =
     (tie.spec
     (λ c κs. search rules)
     (λ c κs. search rules)
-    (λ c κs. rw c.after_sign.ensures (plain_digits (unsigned c.before.before.before.before.args.text.now) (formed_unsigned c.before.before.before.before.args.text.now c.before.before.before.before.requires.1)))
+    (λ c κs. rw c.after_sign-digits.ensures (plain_digits (unsigned c.before.before.before.before.args.text.now) (formed_unsigned c.before.before.before.before.args.text.now c.before.before.before.before.requires.1)))
     (λ c κs. search rules)
     (λ c. search rules)
     plan-ordinal-requires
     (λ c. search rules)
     (λ c. search rules)
-    (λ c κs. let p = c.before.before.before.plan_ordinal in (omega (arith, p.ensures.0, p.ensures.2), omega (arith, p.ensures.0)))
+    (λ c κs. let p = c.before.before.before.plan_ordinal-n in (omega (arith, p.ensures.0, p.ensures.2), omega (arith, p.ensures.0)))
     (λ c. search rules)
-    (λ c. (heard _ _ _ (phrase_is c.before.before.before.before.before.before) (rw c.before.before.before.before.before.before.before.before.before.before.before.before.before.texts.ensures at c.before.before.speak.ensures.0), omega (arith, c.before.before.speak.ensures.1, c.before.before.before.before.before.before.plan_ordinal.ensures.0))))
+    (λ c. (heard _ _ _ (phrase_is c.before.before.before.before.before.before) (rw c.before.before.before.before.before.before.before.before.before.before.before.before.before.texts-lent.ensures at c.before.before.speak.ensures.0), omega (arith, c.before.before.speak.ensures.1, c.before.before.before.before.before.before.plan_ordinal-n.ensures.0))))

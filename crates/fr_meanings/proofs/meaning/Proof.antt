@@ -10,8 +10,8 @@ use Rattle.fr_meanings.proofs.meaning.Statement.{statement}
 use Rattle.fr_meanings.proofs.meaning.Tie as tie
 
 -- what stands at the key's place
-at : (c : tie.After-entry-at) → c.entry_at.result ≡ lookup (place_of c.before.before.args.key) table
-at c = let k = c.before.before.args.key in c.entry_at.ensures ∙ ap (λ (n : ℕ). lookup ((k % 256 + n) % 256) table) c.before.shift.ensures
+at : (c : tie.After-entry-at) → c.entry_at-entry.result ≡ lookup (place_of c.before.before.args.key) table
+at c = let k = c.before.before.args.key in c.entry_at-entry.ensures ∙ ap (λ (n : ℕ). lookup ((k % 256 + n) % 256) table) c.before.shift-shift.ensures
 
 pub meaning_spec : {M : Type 1} → statement M
 unfolding meaning_of
@@ -23,5 +23,5 @@ meaning_spec =
     (λ c. search rules)
     (λ c κs. search rules)
     (λ c. search rules)
-    (λ c. here (at c.before) c.if1.true)
-    (λ c. elsewhere (at c.before) c.if1.false))
+    (λ c. here (at c.before) c.if-entry-key.true)
+    (λ c. elsewhere (at c.before) c.if-entry-key.false))

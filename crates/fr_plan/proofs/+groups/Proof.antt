@@ -32,7 +32,7 @@ unfolding listed
 +groups_spec =
     close μ λ t.
     groups-lts.spec (unpacked-reads.Asked, unpacked-reads.Learnt, group-Reads.Asked, group-Reads.Learnt, below t, groups-reads.Post) (at t) groups-reads.Post
-    (λ c. rw c.if1.true (nothing _ _ _))
+    (λ c. rw c.if-n-eq0.true (nothing _ _ _))
     (λ c. search rules)
     (λ c κs. search rules)
     (λ c. search rules)
@@ -40,9 +40,9 @@ unfolding listed
     (λ c κs. let s = c.before.before.before.before in (rw c.before.before.unpacked.ensures s.requires.1.0, omega arith, omega (arith, s.requires.1.2)))
     (λ c κs.
     let s = c.before.before.before.before.before.before in
-    (omega (arith, s.requires.0), (s.requires.1.0, omega arith, omega (arith, s.requires.1.2, c.before.group.ensures.near, c.before.group.ensures.same))))
+    (omega (arith, s.requires.0), (s.requires.1.0, omega arith, omega (arith, s.requires.1.2, c.before.group-k.ensures.near, c.before.group-k.ensures.same))))
     (λ c.
     let a = c.before.before.before.before.before.before.before.args in
-    let z = c.before.before.before.before.before.before.if1.false in
-    likewise (5 * a.n) (after (5 * a.n) (rw c.before.before.before.before.before.unpacked.ensures at c.before.before.group.ensures) c.groups.ensures (omega (arith, z))) (omega arith)
+    let z = c.before.before.before.before.before.before.if-n-eq0.false in
+    likewise (5 * a.n) (after (5 * a.n) (rw c.before.before.before.before.before.unpacked.ensures at c.before.before.group-k.ensures) c.groups.ensures (omega (arith, z))) (omega arith)
     (groups_more (settings_in a.code) (french_joiner (settings_in a.code)) a.n a.gs.now z))

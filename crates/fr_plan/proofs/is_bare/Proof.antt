@@ -8,5 +8,5 @@ pub is_bare_spec : {M : Type 1} → statement M
 is_bare_spec =
     tie.close
     (tie.spec
-    (λ c. bare_mille c.before.args.order c.before.args.g c.if1.true)
-    (λ c. bare_not c.before.args.order c.before.args.g c.if1.false))
+    (λ c. bare_mille c.before.args.order c.before.args.g c.if-order-eq1.true)
+    (λ c. bare_not c.before.args.order c.before.args.g c.if-order-eq1.false))

@@ -18,9 +18,9 @@ linked_spec =
     (tie.spec
     (λ c κs. search rules)
     (λ c κs. (et.known, search rules))
-    (λ c κs. (c.before.before.before.before.before.before.before.before.requires.0, omega (arith, c.before.before.before.join.ensures.near, c.before.before.before.join.ensures.same, c.before.before.before.before.before.before.before.before.requires.1)))
+    (λ c κs. (c.before.before.before.before.before.before.before.before.requires.0, omega (arith, c.before.before.before.join-a.ensures.near, c.before.before.before.join-a.ensures.same, c.before.before.before.before.before.before.before.before.requires.1)))
     (λ c. search rules)
-    (λ c. let a = c.before.before.before.before.before.before.before.before.before.before.before.args in likewise 2 (after 2 (as_word c.before.before.before.before.before.before.join.ensures et.says) c.before.before.join2.ensures (omega arith)) (omega arith) (link_et a.settings a.t a.u (part fr_pool a.place) (sym c.before.before.before.before.before.before.before.before.before.takes_et.ensures ∙ c.before.before.before.before.before.before.before.before.if1.true)))
+    (λ c. let a = c.before.before.before.before.before.before.before.before.before.before.before.args in likewise 2 (after 2 (as_word c.before.before.before.before.before.before.join-a.ensures et.says) c.before.before.join.ensures (omega arith)) (omega arith) (link_et a.settings a.t a.u (part fr_pool a.place) (sym c.before.before.before.before.before.before.before.before.before.takes_et.ensures ∙ c.before.before.before.before.before.before.before.before.if-takes_et.true)))
     (λ c κs. search rules)
     (λ c. search rules)
-    (λ c. let s = c.before.before.before.before.before.before.before in let a = s.args in likewise 2 (one_word c.before.before.say.ensures (lit< tt) (lit< tt) s.requires.0) (omega arith) (link_hyphen a.settings a.t a.u (part fr_pool a.place) (sym c.before.before.before.before.before.takes_et.ensures ∙ c.before.before.before.before.if1.false))))
+    (λ c. let s = c.before.before.before.before.before.before.before in let a = s.args in likewise 2 (one_word c.before.before.say.ensures (lit< tt) (lit< tt) s.requires.0) (omega arith) (link_hyphen a.settings a.t a.u (part fr_pool a.place) (sym c.before.before.before.before.before.takes_et.ensures ∙ c.before.before.before.before.if-takes_et.false))))

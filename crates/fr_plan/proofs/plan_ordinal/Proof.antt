@@ -23,46 +23,46 @@ use Rattle.fr_plan.proofs.Endings.{some_codes, last_known, ended}
 use Rattle.fr_plan.proofs.plan_ordinal.Statement.{statement}
 use Rattle.fr_plan.proofs.plan_ordinal.Tie as tie
 
-returns : tie.Need-returns
+returns : tie.Need-returns-then-is
 unfolding nth_phrase nth_of
 returns c =
     let s = c.before.before.before.before.before.before in
     let t = as_word c.join.ensures premier.says in
     let e : eqb (total s.args.gs.now) 1 ≡ c.before.before.before.is.result = sym c.before.before.before.is.ensures in
-    (omega (arith, t.near), rw (e, c.before.before.if1.true) (whole_phrase (french_joiner s.args.settings) (utf8 "premier" ∷ []) t), t.same)
+    (omega (arith, t.near), rw (e, c.before.before.if-is.true) (whole_phrase (french_joiner s.args.settings) (utf8 "premier" ∷ []) t), t.same)
 
-plan-words-requires : tie.Need-plan-words-requires
+plan-words-requires : tie.Need-plan_words-count-requires
 plan-words-requires c κs =
     let p = c.before.before.before.before.before.before.before.requires in
-    ((p.1, p.3.zeros, omega (arith, p.2.0, p.3.fits), omega (arith, p.4)), (p.2, c.before.is2.ensures))
+    ((p.1, p.3.zeros, omega (arith, p.2.0, p.3.fits), omega (arith, p.4)), (p.2, c.before.is-2.ensures))
 
 -- the cardinal's plan has a last word
-some : (c : tie.After-plan-words) → 0 < c.plan_words.result
+some : (c : tie.After-plan-words) → 0 < c.plan_words-count.result
 some c =
     let s = c.before.before.before.before.before.before.before.before in
     let gs = s.args.gs.now in
-    some_codes c.plan_words.ensures (spaced_some (french_joiner s.args.settings) (cardinal_words (french s.args.settings) false (total gs)) (some_words s.args.settings (total gs) (groups_hold gs s.requires.2)))
+    some_codes c.plan_words-count.ensures (spaced_some (french_joiner s.args.settings) (cardinal_words (french s.args.settings) false (total gs)) (some_words s.args.settings (total gs) (groups_hold gs s.requires.2)))
 
-within : (c : tie.After-plan-words) → c.plan_words.result ≤ length c.plan_words.new.1.1.1.1.1.0
-within c = omega (arith, c.plan_words.ensures.near, c.plan_words.ensures.same, c.before.before.before.before.before.before.before.before.requires.4)
+within : (c : tie.After-plan-words) → c.plan_words-count.result ≤ length c.plan_words-count.new.1.1.1.1.1.0
+within c = omega (arith, c.plan_words-count.ensures.near, c.plan_words-count.ensures.same, c.before.before.before.before.before.before.before.before.requires.4)
 
-known : (c : tie.After-plan-words) → Known (get_or c.plan_words.new.1.1.1.1.1.0 (c.plan_words.result - 1) 0 / 256)
-known c = last_known c.plan_words.ensures (some c) (within c)
+known : (c : tie.After-plan-words) → Known (get_or c.plan_words-count.new.1.1.1.1.1.0 (c.plan_words-count.result - 1) 0 / 256)
+known c = last_known c.plan_words-count.ensures (some c) (within c)
 
-returns-2 : tie.Need-returns-2
+returns-2 : tie.Need-returns
 unfolding cardinal_phrase french
 returns-2 c =
     let s = c.before.before.before.before.before.before.before.before.before.before.before.before.before.before in
     let d = c.before.before.before.before.before.before in
-    let t = d.plan_words.ensures in
+    let t = d.plan_words-count.ensures in
     let gs = s.args.gs.now in
     let S = s.args.settings in
-    let o : eqb (total gs) 1 ≡ false = sym c.before.before.before.before.before.before.before.before.before.before.before.is.ensures ∙ c.before.before.before.before.before.before.before.before.before.before.if1.false in
+    let o : eqb (total gs) 1 ≡ false = sym c.before.before.before.before.before.before.before.before.before.before.before.is.ensures ∙ c.before.before.before.before.before.before.before.before.before.before.if-is.false in
     let m = whole_phrase (french_joiner S) (cardinal_words (french S) false (total gs)) t in (
-      omega (arith, t.near, c.before.before.say.ensures.next, c.say2.ensures.next, some d),
-      ended t (some d) (within d) c.before.before.say.ensures c.say2.ensures c.before.before.before.before.stem.ensures.0 c.before.before.before.before.stem.ensures.1 ième.says
+      omega (arith, t.near, c.before.before.say-a.ensures.next, c.say.ensures.next, some d),
+      ended t (some d) (within d) c.before.before.say-a.ensures c.say.ensures c.before.before.before.before.stem-place.ensures.0 c.before.before.before.before.stem-place.ensures.1 ième.says
           ∙ ap nth m ∙ sym (nth_phrase_lem S (total gs) (groups_hold gs s.requires.2) (eqb-false (total gs) 1 o)),
-      c.say2.ensures.same ∙ c.before.before.say.ensures.same ∙ t.same,
+      c.say.ensures.same ∙ c.before.before.say-a.ensures.same ∙ t.same,
     )
 
 pub plan_ordinal_spec : {M : Type 1} → statement M

@@ -12,8 +12,8 @@ pub scale_words_spec : {M : Type 1} → statement M
 scale_words_spec =
     tie.close
     (tie.spec
-    (λ c. let a = c.before.before.args in likewise 1 (nothing 1 _ _) (omega arith) (scale_none (french_joiner a.settings) a.order a.g c.if1.true))
+    (λ c. let a = c.before.before.args in likewise 1 (nothing 1 _ _) (omega arith) (scale_none (french_joiner a.settings) a.order a.g c.if-order-eq0.true))
     (λ c κs. search rules)
     (λ c κs. (c.before.scale.ensures.known, search rules))
     (λ c. search rules)
-    (λ c. let a = c.before.before.before.before.before.before.before.args in likewise 1 (as_word c.before.before.join.ensures c.before.before.before.before.scale.ensures.says) (omega arith) (scale_some (french_joiner a.settings) a.order a.g c.before.before.before.before.before.if1.false)))
+    (λ c. let a = c.before.before.before.before.before.before.before.args in likewise 1 (as_word c.before.before.join.ensures c.before.before.before.before.scale.ensures.says) (omega arith) (scale_some (french_joiner a.settings) a.order a.g c.before.before.before.before.before.if-order-eq0.false)))

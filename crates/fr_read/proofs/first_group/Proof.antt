@@ -11,40 +11,40 @@ use Rattle.fr_read.proofs.Cases.{group_scale, group_cent, group_low, group_end}
 use Rattle.fr_read.proofs.first_group.Statement.{statement}
 use Rattle.fr_read.proofs.first_group.Tie as tie
 
-abbrev invariant-loop : tie.invariant-loop
+abbrev invariant-loop : tie.invariant-loop-at
 invariant-loop s h₀ at₀ h at = (at ≤ length s) × (h < 10) × (seems 0 0 (meanings s) ≡ seems h 0 (meanings (drop at s)))
 
-abbrev decreases-loop : tie.decreases-loop
+abbrev decreases-loop : tie.decreases-loop-at
 decreases-loop s h₀ at₀ h at = length s - at
 
-returns : tie.Need-returns invariant-loop decreases-loop
+returns : tie.Need-returns-then-t-gt-HUNDRED invariant-loop decreases-loop
 returns c =
-    let p = c.before.before.before.before.before.low in
+    let p = c.before.before.before.before.before.low-t in
     let r = p.result in
-    let l = c.before.before.before.before.before.before.before.loop in
-    let e = group_scale c.before.before.before.before.before.before.before.before.before.args.s.now l.h l.at l.invariant.2 r.count r.meaning r.next p.ensures.0 c.before.before.before.if1.true in
+    let l = c.before.before.before.before.before.before.before.loop-at in
+    let e = group_scale c.before.before.before.before.before.before.before.before.before.args.s.now l.h l.at l.invariant.2 r.count r.meaning r.next p.ensures.0 c.before.before.before.if-t-gt-HUNDRED.true in
     (rw (c.before.one.ensures, c.order_of.ensures) e, p.ensures.1.2)
 
-returns-2 : tie.Need-returns-2 invariant-loop decreases-loop
+returns-2 : tie.Need-returns-then-t-lt-HUNDRED invariant-loop decreases-loop
 returns-2 c =
-    let p = c.before.before.before.before.before.low in
+    let p = c.before.before.before.before.before.low-t in
     let r = p.result in
-    let l = c.before.before.before.before.before.before.before.loop in
-    let n = p.ensures.1.3 c.before.if2.true in
+    let l = c.before.before.before.before.before.before.before.loop-at in
+    let n = p.ensures.1.3 c.before.if-t-lt-HUNDRED.true in
     (group_low c.before.before.before.before.before.before.before.before.before.args.s.now l.h l.at l.invariant.2 r.count r.meaning r.next p.ensures.0 p.ensures.1.0 n.0 n.1, p.ensures.1.2)
 
-loop-again : tie.Need-loop-preserved invariant-loop decreases-loop
+loop-again : tie.Need-loop-at-preserved invariant-loop decreases-loop
 loop-again c =
-    let p = c.before.before.before.before.before.low in
+    let p = c.before.before.before.before.before.low-t in
     let r = p.result in
-    let l = c.before.before.before.before.before.before.before.loop in
-    let e = group_cent c.before.before.before.before.before.before.before.before.before.args.s.now l.h l.at l.invariant.2 r.count r.meaning r.next p.ensures.0 (omega (arith, c.before.before.before.if1.false, c.before.if2.false)) in
-    (p.ensures.1.2, rw c.times.ensures (times_small r.count), rw c.times.ensures e)
+    let l = c.before.before.before.before.before.before.before.loop-at in
+    let e = group_cent c.before.before.before.before.before.before.before.before.before.args.s.now l.h l.at l.invariant.2 r.count r.meaning r.next p.ensures.0 (omega (arith, c.before.before.before.if-t-gt-HUNDRED.false, c.before.if-t-lt-HUNDRED.false)) in
+    (p.ensures.1.2, rw c.times-h.ensures (times_small r.count), rw c.times-h.ensures e)
 
-returns-3 : tie.Need-returns-3 invariant-loop decreases-loop
+returns-3 : tie.Need-returns invariant-loop decreases-loop
 returns-3 c =
-    let l = c.before.loop in
-    (group_end c.before.before.before.args.s.now l.h l.at l.invariant.2 c.loop-test.false, l.invariant.0)
+    let l = c.before.loop-at in
+    (group_end c.before.before.before.args.s.now l.h l.at l.invariant.2 c.loop-at-test.false, l.invariant.0)
 
 pub first_group_spec : {M : Type 1} → statement M
 first_group_spec =
@@ -52,16 +52,16 @@ first_group_spec =
     (tie.spec invariant-loop decreases-loop
     (λ c. (omega arith, omega arith, refl))
     (λ c κs. search rules)
-    (λ c. omega (arith, c.before.before.before.before.loop.invariant.1))
-    (λ c. omega (arith, c.before.before.before.before.before.loop.invariant.1, c.before.before.before.low.ensures.1.0))
+    (λ c. omega (arith, c.before.before.before.before.loop-at.invariant.1))
+    (λ c. omega (arith, c.before.before.before.before.before.loop-at.invariant.1, c.before.before.before.low-t.ensures.1.0))
     (λ c κs. search rules)
     (λ c κs. search rules)
     returns
-    (λ c. omega (arith, c.before.before.before.before.before.before.loop.invariant.1))
-    (λ c. omega (arith, c.before.before.before.before.before.before.before.loop.invariant.1, c.before.before.before.before.before.low.ensures.1.0))
+    (λ c. omega (arith, c.before.before.before.before.before.before.loop-at.invariant.1))
+    (λ c. omega (arith, c.before.before.before.before.before.before.before.loop-at.invariant.1, c.before.before.before.before.before.low-t.ensures.1.0))
     returns-2
     (λ c κs. search rules)
-    (λ c. omega (arith, c.before.before.before.before.before.low.ensures.1.1, c.before.before.before.before.before.low.ensures.1.2))
+    (λ c. omega (arith, c.before.before.before.before.before.low-t.ensures.1.1, c.before.before.before.before.before.low-t.ensures.1.2))
     loop-again
-    (λ c. omega (arith, c.before.loop.invariant.1))
+    (λ c. omega (arith, c.before.loop-at.invariant.1))
     returns-3)

@@ -12,6 +12,6 @@ grow_spec =
     (tie.spec
     (λ c κs. search rules)
     (λ c κs. search rules)
-    (λ c. let a = c.before.before.args in grow_eighty a.c a.m c.before.if1.true c.if2.true)
-    (λ c. let a = c.before.before.before.args in c.sum.ensures ∙ grow_four a.c a.m c.before.before.if1.true c.before.if2.false)
-    (λ c. let a = c.before.before.args in c.sum2.ensures ∙ grow_other a.c a.m c.before.if1.false))
+    (λ c. let a = c.before.before.args in grow_eighty a.c a.m c.before.if-c-eq4.true c.if-m-eq20.true)
+    (λ c. let a = c.before.before.before.args in c.sum.ensures ∙ grow_four a.c a.m c.before.before.if-c-eq4.true c.before.if-m-eq20.false)
+    (λ c. let a = c.before.before.args in c.sum-else-c-eq4.ensures ∙ grow_other a.c a.m c.before.if-c-eq4.false))

@@ -10,8 +10,8 @@ use Rattle.fr_read.proofs.Cases.{plan_stands}
 use Rattle.fr_read.proofs.is_cardinal.Statement.{statement}
 use Rattle.fr_read.proofs.is_cardinal.Tie as tie
 
-within : (c : tie.After-plan-cardinal) → c.plan_cardinal.result ≤ length c.plan_cardinal.new.1.1.1.1.1.0
-within c = omega (arith, c.plan_cardinal.ensures.0, c.plan_cardinal.ensures.2)
+within : (c : tie.After-plan-cardinal) → c.plan_cardinal-k.result ≤ length c.plan_cardinal-k.new.1.1.1.1.1.0
+within c = omega (arith, c.plan_cardinal-k.ensures.0, c.plan_cardinal-k.ensures.2)
 
 pub is_cardinal_spec : {M : Type 1} → statement M
 is_cardinal_spec =
@@ -21,4 +21,4 @@ is_cardinal_spec =
     (λ c. search rules)
     (λ c. sym (length-take-le _ _ (within c.before)))
     (λ c κs. search rules)
-    (λ c. plan_stands _ _ _ _ _ c.stands.ensures c.before.before.plan_cardinal.ensures.1))
+    (λ c. plan_stands _ _ _ _ _ c.stands.ensures c.before.before.plan_cardinal-k.ensures.1))

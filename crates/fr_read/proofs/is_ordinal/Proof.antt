@@ -10,8 +10,8 @@ use Rattle.fr_read.proofs.Cases.{plan_stands}
 use Rattle.fr_read.proofs.is_ordinal.Statement.{statement}
 use Rattle.fr_read.proofs.is_ordinal.Tie as tie
 
-within : (c : tie.After-plan-ordinal) → c.plan_ordinal.result ≤ length c.plan_ordinal.new.1.1.1.1.0
-within c = omega (arith, c.plan_ordinal.ensures.0, c.plan_ordinal.ensures.2)
+within : (c : tie.After-plan-ordinal) → c.plan_ordinal-k.result ≤ length c.plan_ordinal-k.new.1.1.1.1.0
+within c = omega (arith, c.plan_ordinal-k.ensures.0, c.plan_ordinal-k.ensures.2)
 
 pub is_ordinal_spec : {M : Type 1} → statement M
 is_ordinal_spec =
@@ -24,4 +24,4 @@ is_ordinal_spec =
     (λ c. search rules)
     (λ c. sym (length-take-le _ _ (within c.before.before)))
     (λ c κs. search rules)
-    (λ c. plan_stands _ _ _ _ _ (rw c.before.before.before.before.before.before.texts.ensures at c.stands.ensures) c.before.before.before.plan_ordinal.ensures.1))
+    (λ c. plan_stands _ _ _ _ _ (rw c.before.before.before.before.before.before.texts-lent.ensures at c.stands.ensures) c.before.before.before.plan_ordinal-k.ensures.1))

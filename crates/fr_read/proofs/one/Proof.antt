@@ -8,5 +8,5 @@ pub one_spec : {M : Type 1} → statement M
 one_spec =
     tie.close
     (tie.spec
-    (λ c. one_none c.before.args.v c.if1.true)
-    (λ c. one_some c.before.args.v c.if1.false))
+    (λ c. one_none c.before.args.v c.if-v-eq0.true)
+    (λ c. one_some c.before.args.v c.if-v-eq0.false))

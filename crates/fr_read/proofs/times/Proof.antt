@@ -11,6 +11,6 @@ pub times_spec : {M : Type 1} → statement M
 times_spec =
     tie.close
     (tie.spec
-    (λ c. times_one c.before.args.c c.if1.true)
-    (λ c. let a = c.before.before.args in let e : a.c ≡ a.c % 10 = omega (arith, c.if2.true) in e ∙ times_more a.c c.before.if1.false)
-    (λ c. times_more c.before.before.args.c c.before.if1.false))
+    (λ c. times_one c.before.args.c c.if-c-eq0.true)
+    (λ c. let a = c.before.before.args in let e : a.c ≡ a.c % 10 = omega (arith, c.if-c-lt10.true) in e ∙ times_more a.c c.before.if-c-eq0.false)
+    (λ c. times_more c.before.before.args.c c.before.if-c-eq0.false))

@@ -17,27 +17,27 @@ use Rattle.groups.proofs.Triples.{group_turn, zeros_after}
 use Rattle.groups.proofs.groups_from.Statement.{statement}
 use Rattle.groups.proofs.groups_from.Tie as tie
 
-abbrev invariant-loop : tie.invariant-loop
+abbrev invariant-loop : tie.invariant-loop-rest
 invariant-loop n out₀ rest₀ o₀ out rest o =
     (length out ≡ length out₀) × (rest ≡ n / 1000 ^ o) × (out ≡ sofar out₀ (groups_of (length out₀) n) o) × ((i : ℕ) → i < o → n / 1000 ^ i ≡ 0 → ⊥)
 
-abbrev decreases-loop : tie.decreases-loop
+abbrev decreases-loop : tie.decreases-loop-rest
 decreases-loop n out₀ rest₀ o₀ out rest o = rest
 
 -- in the loop there is one more order
-more : (c : tie.In-loop invariant-loop decreases-loop) → (i : ℕ) → i < c.before.loop.o + 1 → c.before.before.args.n / 1000 ^ i ≡ 0 → ⊥
-more c = let b = c.before.loop in below_more _ _ b.invariant.3 (λ e. c.loop-test.true (b.invariant.1 ∙ e))
+more : (c : tie.In-loop invariant-loop decreases-loop) → (i : ℕ) → i < c.before.loop-rest.o + 1 → c.before.before.args.n / 1000 ^ i ≡ 0 → ⊥
+more c = let b = c.before.loop-rest in below_more _ _ b.invariant.3 (λ e. c.loop-rest-test.true (b.invariant.1 ∙ e))
 
-room : (c : tie.In-loop invariant-loop decreases-loop) → c.before.loop.o + 1 ≤ 7
-room c = few_orders c.before.before.args.n (c.before.loop.o + 1) (more c) 7 (omega arith)
+room : (c : tie.In-loop invariant-loop decreases-loop) → c.before.loop-rest.o + 1 ≤ 7
+room c = few_orders c.before.before.args.n (c.before.loop-rest.o + 1) (more c) 7 (omega arith)
 
-loop-holds : tie.Need-loop-init invariant-loop decreases-loop
+loop-holds : tie.Need-loop-rest-init invariant-loop decreases-loop
 loop-holds c = (refl, sym (div-one c.args.n), refl, λ i h. absurd (omega arith))
 
-loop-again : tie.Need-loop-preserved invariant-loop decreases-loop
+loop-again : tie.Need-loop-rest-preserved invariant-loop decreases-loop
 loop-again c =
     let a = c.before.before.args in
-    let b = c.before.loop in
+    let b = c.before.loop-rest in
     let r : b.rest % 1000 ≡ a.n / 1000 ^ b.o % 1000 = ap (λ (x : ℕ). x % 1000) b.invariant.1 in (
       simp length-set b.invariant.0,
       rest_turn a.n b.rest b.o b.invariant.1,
@@ -48,10 +48,10 @@ loop-again c =
 returns : tie.Need-returns invariant-loop decreases-loop
 returns c =
     let s = c.before.before in
-    let b = c.before.loop in
+    let b = c.before.loop-rest in
     let n : ℕ = s.args.n in
     let k : ℕ = length s.args.out.now in
-    let z : n / 1000 ^ b.o ≡ 0 = sym b.invariant.1 ∙ c.loop-test.false in
+    let z : n / 1000 ^ b.o ≡ 0 = sym b.invariant.1 ∙ c.loop-rest-test.false in
     let e : b.out ≡ groups_of k n = b.invariant.2 ∙ ap (λ l. sofar l (groups_of k n) b.o) s.requires.0 ∙ zeros_after k n b.o z in
     let m : b.o ≤ 7 = few_orders n b.o b.invariant.3 7 (omega arith) in
     (e, subst (λ l. Highest l b.o) (sym e) (all_orders n b.o b.invariant.3 k (omega (arith, s.requires.1)) z))

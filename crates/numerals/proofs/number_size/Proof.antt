@@ -10,19 +10,19 @@ use Rattle.figures.proofs.Laws.Text.{text_small}
 use Rattle.numerals.proofs.number_size.Statement.{statement}
 use Rattle.numerals.proofs.number_size.Tie as tie
 
-returns : tie.Need-returns
+returns : tie.Need-returns-then-minus
 returns c =
     let a = c.before.before.before.args in
     let l = text_small (total a.g.now) in
-    let e = ap length (sign_yes a.minus (total a.g.now) c.before.if1.true) in
+    let e = ap length (sign_yes a.minus (total a.g.now) c.before.if-minus.true) in
     (omega (arith, c.text_size.ensures), omega (arith, c.text_size.ensures))
 
-returns-2 : tie.Need-returns-2
+returns-2 : tie.Need-returns-else-minus
 returns-2 c =
     let a = c.before.before.before.args in
     let l = text_small (total a.g.now) in
-    let e = ap length (sign_no a.minus (total a.g.now) c.before.if1.false) in
-    (omega (arith, c.text_size2.ensures), omega (arith, c.text_size2.ensures))
+    let e = ap length (sign_no a.minus (total a.g.now) c.before.if-minus.false) in
+    (omega (arith, c.text_size-else-minus.ensures), omega (arith, c.text_size-else-minus.ensures))
 
 pub number_size_spec : {M : Type 1} → statement M
 number_size_spec =

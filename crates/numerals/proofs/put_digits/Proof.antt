@@ -13,20 +13,20 @@ use Rattle.numerals.proofs.Write.{one_digit, two_digits, three_digits}
 use Rattle.numerals.proofs.put_digits.Statement.{statement}
 use Rattle.numerals.proofs.put_digits.Tie as tie
 
-returns : tie.Need-returns
+returns : tie.Need-returns-then-k-eq1
 returns c =
     let a = c.before.args in
     let x : ℕ = a.x in
-    put_all a.out.now ((48 + x % 10) ∷ []) (omega arith) ∙ ap (over a.out.now) (one_digit x ∙ ap (λ (k : ℕ). fixed k x) (sym c.if1.true))
+    put_all a.out.now ((48 + x % 10) ∷ []) (omega arith) ∙ ap (over a.out.now) (one_digit x ∙ ap (λ (k : ℕ). fixed k x) (sym c.if-k-eq1.true))
 
-returns-2 : tie.Need-returns-2
+returns-2 : tie.Need-returns-then-k-eq2
 returns-2 c =
     let a = c.before.before.args in
     let x : ℕ = a.x in
     put_all a.out.now ((48 + x / 10 % 10) ∷ (48 + x % 10) ∷ []) (omega arith) ∙
-    ap (over a.out.now) (two_digits x ∙ ap (λ (k : ℕ). fixed k x) (sym c.if2.true))
+    ap (over a.out.now) (two_digits x ∙ ap (λ (k : ℕ). fixed k x) (sym c.if-k-eq2.true))
 
-returns-3 : tie.Need-returns-3
+returns-3 : tie.Need-returns
 returns-3 c =
     let a = c.before.before.args in
     let x : ℕ = a.x in

@@ -20,30 +20,30 @@ module _ (c : tie.Then1) where
   minus : c.before.before.before.args.w ≡ suc (length (decimal (total c.before.before.before.args.g.now)))
   minus =
       let s = c.before.before.before in
-      s.requires.1.1.0 ∙ ap length (sign_yes s.args.minus (total s.args.g.now) c.if1.true)
+      s.requires.1.1.0 ∙ ap length (sign_yes s.args.minus (total s.args.g.now) c.if-minus.true)
 
   room : 1 ≤ length c.before.before.before.args.out.now
   room = omega (arith, minus, c.before.before.before.requires.1.1)
 
-put-text-requires : tie.Need-put-text-requires
+put-text-requires : tie.Need-put_text-requires
 put-text-requires c κs =
     let s = c.before.before.before.before in
     let e = minus c.before in
     (s.requires.0, (s.requires.1.0, (omega arith, simp (length-take, length-drop, length-set) (omega (arith, s.requires.1.1)))))
 
-put-text-requires-2 : tie.Need-put-text-requires-2
+put-text-requires-2 : tie.Need-put_text-requires-else-minus
 put-text-requires-2 c κs =
     let s = c.before.before.before.before in
-    let e = ap length (sign_no s.args.minus (total s.args.g.now) c.before.if1.false) in
+    let e = ap length (sign_no s.args.minus (total s.args.g.now) c.before.if-minus.false) in
     (s.requires.0, (s.requires.1.0, (omega (arith, s.requires.1.1), omega (arith, s.requires.1.1))))
 
-same_length : tie.Need-same-length
+same_length : tie.Need-shape_of-out-then-minus
 same_length c =
     let xs = c.before.before.before.before.before.before.before.args.out.now in
     let p = c.before.before.put_text in
     same_len_mid 1 (length (set xs 0 45) - 1) (set xs 0 45) p.new.1.0 p.auto.1.0 ∙ length-set xs 0 45
 
-returns : tie.Need-returns
+returns : tie.Need-returns-then-minus
 returns c =
     let b = c.before.before.before.before in
     let s = b.before.before.before in
@@ -51,12 +51,12 @@ returns c =
     let n : ℕ = total s.args.g.now in
     let p = c.before.before.put_text in
     wrote 1 xs (45 ∷ []) (decimal n) (set xs 0 45) p.new.1.0 refl (put_all xs (45 ∷ []) (room b)) p.ensures ∙
-    sym (ap (over xs) (sign_yes s.args.minus n b.if1.true))
+    sym (ap (over xs) (sign_yes s.args.minus n b.if-minus.true))
 
-returns-2 : tie.Need-returns-2
+returns-2 : tie.Need-returns-else-minus
 returns-2 c =
     let s = c.before.before.before.before.before.before.before in
-    c.before.before.put_text2.ensures ∙ sym (ap (over s.args.out.now) (sign_no s.args.minus (total s.args.g.now) c.before.before.before.before.if1.false))
+    c.before.before.put_text-else-minus.ensures ∙ sym (ap (over s.args.out.now) (sign_no s.args.minus (total s.args.g.now) c.before.before.before.before.if-minus.false))
 
 pub put_signed_spec : {M : Type 1} → statement M
 put_signed_spec =

@@ -23,13 +23,13 @@ highest c =
     let m : length (decimal n) ≤ length c.args.g.now * 3 = total_size c.args.g.now c.requires.0 (omega arith) in
     (omega (arith, c.requires.1.1, text_some n), omega (arith, c.requires.1.1, m))
 
-put-digits-requires : tie.Need-put-digits-requires
+put-digits-requires : tie.Need-put_digits-requires
 put-digits-requires c κs =
     let s = c.before.before.before.before in
     let h = highest s in
     (group_lt s.args.g.now ((s.args.w - 1) / 3) s.requires.0 h.1, omega arith, omega arith, omega (arith, s.requires.1.1))
 
-put-groups-requires : tie.Need-put-groups-requires
+put-groups-requires : tie.Need-put_groups-requires
 put-groups-requires c κs =
     let s = c.before.before.before.before.before.before.before.before in
     let h = highest s in

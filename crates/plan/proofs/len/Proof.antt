@@ -12,7 +12,7 @@ pub len_spec : {M : Type 1} → statement M
 len_spec =
     tie.close
     (tie.spec
-    (λ c. (rw (none _ _ c.if1.true).1 refl, omega arith))
+    (λ c. (rw (none _ _ c.if-plan-eq0.true).1 refl, omega arith))
     (λ c. search rules)
     (λ c κs. search rules)
     (λ c. search rules)
@@ -25,4 +25,4 @@ len_spec =
     let pool = c.before.before.before.before.before.before.before.args.pool.now in
     let l = from_length 1 plan in
     let f = c.following_len.ensures in
-    (rw (first_phrase pool plan c.before.before.before.before.if1.false, length-append) (omega arith), omega (arith, l, f.1, c.before.before.before.before.if1.false))))
+    (rw (first_phrase pool plan c.before.before.before.before.if-plan-eq0.false, length-append) (omega arith), omega (arith, l, f.1, c.before.before.before.before.if-plan-eq0.false))))

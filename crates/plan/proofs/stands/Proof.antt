@@ -9,16 +9,16 @@ pub stands_spec : {M : Type 1} → statement M
 stands_spec =
     tie.close
     (tie.spec
-    (λ c. none_is c.before.before.before.before.args.pool.now c.before.before.before.before.args.plan.now c.before.before.before.before.args.s.now c.if1.true)
+    (λ c. none_is c.before.before.before.before.args.pool.now c.before.before.before.before.args.plan.now c.before.before.before.before.args.s.now c.if-plan-eq0.true)
     (λ c. search rules)
     (λ c κs. search rules)
-    (λ c. first_not c.before.before.before.before.before.before.before.args.pool.now c.before.before.before.before.before.before.before.args.plan.now c.before.before.before.before.before.before.before.args.s.now c.before.before.before.if1.false _ c.before.pass.ensures c.if2.true)
+    (λ c. first_not c.before.before.before.before.before.before.before.args.pool.now c.before.before.before.before.before.before.before.args.plan.now c.before.before.before.before.before.before.before.args.s.now c.before.before.before.if-plan-eq0.false _ c.before.pass-n.ensures c.if-n-eq0.true)
     (λ c. search rules)
     (λ c. search rules)
     (λ c. search rules)
     (λ c. search rules)
-    (λ c. passed_within _ _ _ c.before.before.pass.ensures c.before.if2.false)
-    (λ c. passed_within _ _ _ c.before.before.pass.ensures c.before.if2.false)
+    (λ c. passed_within _ _ _ c.before.before.pass-n.ensures c.before.if-n-eq0.false)
+    (λ c. passed_within _ _ _ c.before.before.pass-n.ensures c.before.if-n-eq0.false)
     (λ c. search rules)
     (λ c κs. search rules)
-    (λ c. first_on c.before.before.before.before.before.before.before.before.before.before.args.pool.now c.before.before.before.before.before.before.before.before.before.before.args.plan.now c.before.before.before.before.before.before.before.before.before.before.args.s.now c.before.before.before.before.before.before.if1.false _ c.before.before.before.before.pass.ensures c.before.before.before.if2.false _ c.stand_following.ensures))
+    (λ c. first_on c.before.before.before.before.before.before.before.before.before.before.args.pool.now c.before.before.before.before.before.before.before.before.before.before.args.plan.now c.before.before.before.before.before.before.before.before.before.before.args.s.now c.before.before.before.before.before.before.if-plan-eq0.false _ c.before.before.before.before.pass-n.ensures c.before.before.before.if-n-eq0.false _ c.stand_following.ensures))

@@ -33,16 +33,16 @@ module _ (b : List ℕ) where
   unfolding currencies
   numbered k h e a = rw (le-ltb (length b) 837 h, e, lt-ltb k 44 a) refl
 
-returns : tie.Need-returns
+returns : tie.Need-returns-then-tally-lt-SIZE
 returns c = (λ h. absurd (omega arith), λ n. short c.before.args.tally.now (omega arith))
 
-cast-n : tie.Need-overflow-cast-n
-cast-n c = omega (arith, c.shared-slice-known.given 0)
+cast-n : tie.Need-overflow_cast-n
+cast-n c = omega (arith, c.shared_slice_known-1.given 0)
 
-returns-2 : tie.Need-returns-2
+returns-2 : tie.Need-returns-then-n-eq0
 returns-2 c = (λ h. absurd (omega arith), λ n. unnumbered c.before.before.before.args.tally.now (omega arith) (omega arith))
 
-returns-3 : tie.Need-returns-3
+returns-3 : tie.Need-returns
 returns-3 c =
     let b = c.before.before.before.args.tally.now in
     let k : ℕ = get_or b 0 0 - 1 in

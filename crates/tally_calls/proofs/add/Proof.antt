@@ -7,11 +7,11 @@ use Rattle.tally_calls.proofs.add.Statement.{statement}
 use Rattle.tally_calls.proofs.add.Tie as tie
 
 settle-requires : tie.Need-settle-requires
-settle-requires c κs z = let s = c.before.before.before.add_to.ensures.settles z in (s.place_below, s.long)
+settle-requires c κs z = let s = c.before.before.before.add_to-change.ensures.settles z in (s.place_below, s.long)
 
 returns : tie.Need-returns
 returns c =
-    let d = c.before.before.before.before.before.before.before.add_to.ensures in
+    let d = c.before.before.before.before.before.before.before.add_to-change.ensures in
     (tallies d _ c.answer_to.ensures, c.before.before.before.settle.ensures ∙ settled d)
 
 pub add_spec : {M : Type 1} → statement M

@@ -7,4 +7,4 @@ use Rattle.tally_calls.proofs.answer_to.Statement.{statement}
 use Rattle.tally_calls.proofs.answer_to.Tie as tie
 
 pub answer_to_spec : {M : Type 1} → statement M
-answer_to_spec = tie.close (tie.spec (λ c. (refl, sym (no_item _ _ c.if1.true), refl)) (λ c. search rules))
+answer_to_spec = tie.close (tie.spec (λ c. (refl, sym (no_item _ _ c.if-change-ne0.true), refl)) (λ c. search rules))

@@ -7,11 +7,11 @@ use Rattle.tally_calls.proofs.remove.Statement.{statement}
 use Rattle.tally_calls.proofs.remove.Tie as tie
 
 settle-requires : tie.Need-settle-requires
-settle-requires c κs z = let s = c.before.before.before.remove_from.ensures.settles z in (s.place_below, s.long)
+settle-requires c κs z = let s = c.before.before.before.remove_from-change.ensures.settles z in (s.place_below, s.long)
 
 returns : tie.Need-returns
 returns c =
-    let d = c.before.before.before.before.before.before.before.remove_from.ensures in
+    let d = c.before.before.before.before.before.before.before.remove_from-change.ensures in
     (tallies d _ c.answer_to.ensures, c.before.before.before.settle.ensures ∙ settled d)
 
 pub remove_spec : {M : Type 1} → statement M

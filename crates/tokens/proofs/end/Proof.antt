@@ -52,5 +52,5 @@ end_spec =
     (λ c. search rules)
     (λ c. record { fits = omega (arith, counts c, c.before.requires.2) })
     (λ c. search rules)
-    (λ c. (told c.before, rw (counts c.before, lt-ltb _ _ (rw (counts c.before) at c.if1.true)) refl))
-    (λ c. (told c.before, rw (counts c.before, le-ltb _ _ (rw (counts c.before) at c.if1.false)) refl)))
+    (λ c. (told c.before, rw (counts c.before, lt-ltb _ _ (rw (counts c.before) at c.if-e-n.true)) refl))
+    (λ c. (told c.before, rw (counts c.before, le-ltb _ _ (rw (counts c.before) at c.if-e-n.false)) refl)))

@@ -19,6 +19,6 @@ at_order_spec =
     (tie.spec
     (λ c. search rules)
     (λ c κs. search rules)
-    (λ c. both _ c.before.before.before.args.settings c.before.before.before.args.order c.before.before.before.requires (c.in_gender.ensures ∙ at_one _ c.before.before.before.args.settings c.before.if2.true))
+    (λ c. both _ c.before.before.before.args.settings c.before.before.before.args.order c.before.before.before.requires (c.in_gender.ensures ∙ at_one _ c.before.before.before.args.settings c.before.if-order-eq1.true))
     (λ c κs. search rules)
-    (λ c. both _ c.before.before.before.args.settings c.before.before.before.args.order c.before.before.before.requires (c.in_gender2.ensures ∙ at_high _ c.before.before.before.args.settings c.before.before.if1.false c.before.if2.false)))
+    (λ c. both _ c.before.before.before.args.settings c.before.before.before.args.order c.before.before.before.requires (c.in_gender-2.ensures ∙ at_high _ c.before.before.before.args.settings c.before.before.if-order-eq0.false c.before.if-order-eq1.false)))

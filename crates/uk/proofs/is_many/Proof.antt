@@ -8,6 +8,6 @@ pub is_many_spec : {M : Type 1} → statement M
 is_many_spec =
     tie.close
     (tie.spec
-    (λ c. simp (eq-eqb _ _ c.if1.true))
-    (λ c. simp (ne_eqb _ _ c.before.if1.false, lt-ltb _ _ c.if2.true))
-    (λ c. simp (ne_eqb _ _ c.before.if1.false, le-ltb _ _ c.if2.false)))
+    (λ c. simp (eq-eqb _ _ c.if-u-eq0.true))
+    (λ c. simp (ne_eqb _ _ c.before.if-u-eq0.false, lt-ltb _ _ c.if-u-gt4.true))
+    (λ c. simp (ne_eqb _ _ c.before.if-u-eq0.false, le-ltb _ _ c.if-u-gt4.false)))

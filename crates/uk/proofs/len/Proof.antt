@@ -11,7 +11,7 @@ use Rattle.uk.proofs.len.Tie as tie
 
 returns : tie.Need-returns
 unfolding spaces counts_from uk_pool
-returns c = (c.extent_at.ensures.0 uk_pool (record { within = omega arith; none = refl; others = refl })).sized
+returns c = (c.extent_at-extent.ensures.0 uk_pool (record { within = omega arith; none = refl; others = refl })).sized
 
 pub len_spec : {M : Type 1} → statement M
 len_spec = tie.close (tie.spec (λ c. search rules) (λ c κs. search rules) returns)

@@ -13,6 +13,6 @@ scale_ending_spec =
     tie.close
     (tie.spec
     (λ c. search rules) (λ c. search rules) (λ c. search rules) (λ c. search rules) (λ c. search rules) (λ c. search rules)
-    (λ c. rw (eq-eqb _ _ c.before.if1.true) (thousand_at _ _))
+    (λ c. rw (eq-eqb _ _ c.before.if-order-eq1.true) (thousand_at _ _))
     (λ c. search rules) (λ c. search rules) (λ c. search rules) (λ c. search rules)
-    (λ c. rw (ne_eqb _ _ c.before.if1.false) (mega_at _ _)))
+    (λ c. rw (ne_eqb _ _ c.before.if-order-eq1.false) (mega_at _ _)))

@@ -9,5 +9,5 @@ speak_spec =
     tie.close
     (tie.spec
     (λ c κs. search rules)
-    (λ c κs. let p = c.before.before.before.before.before.requires in (p.0, p.1, c.before.before.below.ensures c.before.if1.true))
+    (λ c κs. let p = c.before.before.before.before.before.requires in (p.0, p.1, c.before.before.below.ensures c.before.if-below.true))
     (λ c. search rules) (λ c. search rules) (λ c κs. search rules) (λ c. search rules) (λ c. search rules))

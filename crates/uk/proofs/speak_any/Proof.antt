@@ -9,4 +9,4 @@ speak_any_spec =
     tie.close
     (tie.spec
     (λ c κs. search rules) (λ c. search rules) (λ c κs. search rules) (λ c. search rules)
-    (λ c. rw c.before.before.before.before.before.texts.ensures at c.before.before.speak.ensures))
+    (λ c. rw c.before.before.before.before.before.texts-lent.ensures at c.before.before.speak.ensures))

@@ -10,4 +10,4 @@ speak_front_spec =
     tie.close
     (tie.spec
     (λ c κs. search rules) (λ c. search rules) (λ c κs. search rules) (λ c. search rules)
-    (λ c. let s = c.before.before.before.before.before.before.before.before in rw (c.before.before.before.before.before.front.ensures, front_says s.args.plan.now s.args.n s.requires.2) at c.before.before.speak.ensures))
+    (λ c. let s = c.before.before.before.before.before.before.before.before in rw (c.before.before.before.before.before.front-lent.ensures, front_says s.args.plan.now s.args.n s.requires.2) at c.before.before.speak.ensures))

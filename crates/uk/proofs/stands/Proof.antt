@@ -12,5 +12,5 @@ stands_spec =
     tie.close
     (tie.spec
     (λ c κs. search rules)
-    (λ c κs. let p = c.before.before.before.before.args.plan.now in rw (take_all (length p) p (omega arith)) at (c.before.below.ensures c.if1.true))
+    (λ c κs. let p = c.before.before.before.before.args.plan.now in rw (take_all (length p) p (omega arith)) at (c.before.below.ensures c.if-below.true))
     (λ c. search rules) (λ c κs. search rules) (λ c. search rules))

@@ -10,4 +10,4 @@ stands_front_spec =
     tie.close
     (tie.spec
     (λ c κs. search rules) (λ c. search rules) (λ c κs. search rules)
-    (λ c. let s = c.before.before.before.before.before in rw (c.before.before.front.ensures, front_all s.args.plan.now s.requires) at c.stands.ensures))
+    (λ c. let s = c.before.before.before.before.before in rw (c.before.before.front-lent.ensures, front_all s.args.plan.now s.requires) at c.stands.ensures))

@@ -17,6 +17,6 @@ unit_spec =
     tie.close
     (tie.spec
     (λ c. search rules) (λ c. search rules) (λ c. search rules) (λ c. search rules) (λ c. search rules) (λ c. search rules) (λ c. search rules) (λ c. search rules) (λ c. search rules)
-    (λ c. rw (lt-ltb _ _ c.before.if1.true) (gendered_at _ _ _))
+    (λ c. rw (lt-ltb _ _ c.before.if-u-lt3.true) (gendered_at _ _ _))
     (λ c. search rules) (λ c. search rules) (λ c. search rules) (λ c. search rules) (λ c. search rules) (λ c κs. search rules)
-    (λ c. let s = c.before.before.before.before.before in rw (le-ltb _ _ c.before.before.if1.false) (ap (part uk_pool) c.place.ensures ∙ unit_at _ _ _ s.requires.0.1.1.1.0 (omega (arith, s.requires)) s.requires.0.1.1.0)))
+    (λ c. let s = c.before.before.before.before.before in rw (le-ltb _ _ c.before.before.if-u-lt3.false) (ap (part uk_pool) c.place.ensures ∙ unit_at _ _ _ s.requires.0.1.1.1.0 (omega (arith, s.requires)) s.requires.0.1.1.0)))

@@ -9,15 +9,15 @@ use Rattle.uk_calls.proofs.from_cardinal.Statement.{statement}
 use Rattle.uk_calls.proofs.from_cardinal.Tie as tie
 
 read-requires : tie.Need-read-requires
-read-requires c κs = rw (c.before.ukrainian.ensures, sym c.before.before.before.is_ukrainian.ensures ∙ c.before.before.if1.true) refl
+read-requires c κs = rw (c.before.ukrainian.ensures, sym c.before.before.before.is_ukrainian.ensures ∙ c.before.before.if-is_ukrainian.true) refl
 
-returns-2 : tie.Need-returns-2
+returns-2 : tie.Need-returns-else-is_ukrainian
 returns-2 c =
-    let e = sym c.before.before.is_ukrainian.ensures ∙ c.before.if1.false in
+    let e = sym c.before.before.is_ukrainian.ensures ∙ c.before.if-is_ukrainian.false in
     refuses_first _ _ _ _ wrong_setting c.refused.ensures (rw e refl) (λ z. omega arith)
 
 pub from_cardinal_spec : {M : Type 1} → statement M
 from_cardinal_spec =
     tie.close
-    (tie.spec (λ c κs. search rules) (λ c κs. sym c.before.is_ukrainian.ensures ∙ c.if1.true) read-requires (λ c κs. search rules) (λ c. search rules)
+    (tie.spec (λ c κs. search rules) (λ c κs. sym c.before.is_ukrainian.ensures ∙ c.if-is_ukrainian.true) read-requires (λ c κs. search rules) (λ c. search rules)
     (λ c. rw c.before.before.before.before.ukrainian.ensures at c.before.before.read.ensures) returns-2)

@@ -13,27 +13,27 @@ use Rattle.groups.proofs.Held.{Held, held_text}
 use Rattle.uk_calls.proofs.measure.Statement.{statement}
 use Rattle.uk_calls.proofs.measure.Tie as tie
 
-groups22-requires : tie.Need-groups22-requires
+groups22-requires : tie.Need-groups22-gs-requires
 groups22-requires c κs =
     let s = c.before.before.before.before in
-    ap digits c.after_sign.ensures ∙ plain_digits (unsigned s.args.text.now) (formed_unsigned s.args.text.now s.requires.1)
+    ap digits c.after_sign-digits.ensures ∙ plain_digits (unsigned s.args.text.now) (formed_unsigned s.args.text.now s.requires.1)
 
 -- the text's groups
-grouped : (c : tie.After-plan) → Held 22 (unsigned c.before.before.before.before.before.before.before.before.args.text.now) c.before.before.before.groups22.result c.before.before.count.result
+grouped : (c : tie.After-plan) → Held 22 (unsigned c.before.before.before.before.before.before.before.before.args.text.now) c.before.before.before.groups22-gs.result c.before.before.count-orders.result
 grouped c =
     let s = c.before.before.before.before.before.before.before.before in
-    held_text 22 s.args.text.now _ _ _ s.requires.1 s.requires.2 c.before.before.before.before.after_sign.ensures c.before.before.before.groups22.ensures c.before.before.count.ensures
+    held_text 22 s.args.text.now _ _ _ s.requires.1 s.requires.2 c.before.before.before.before.after_sign-digits.ensures c.before.before.before.groups22-gs.ensures c.before.before.count-orders.ensures
 
-plan-cardinal-requires : tie.Need-plan-cardinal-requires
+plan-cardinal-requires : tie.Need-plan_cardinal-pieces-requires
 plan-cardinal-requires c κs =
     let s = c.before.before.before.before.before.before.before.before in
     let g = grouped c in
-    ((s.requires.0, g.few, g.top.zeros, omega arith), (g.below, g.size, c.before.before.before.before.before.before.is_zero.ensures ∙ ap (λ (n : ℕ). eqb n 0) (sym g.number)))
+    ((s.requires.0, g.few, g.top.zeros, omega arith), (g.below, g.size, c.before.before.before.before.before.before.is_zero-zero.ensures ∙ ap (λ (n : ℕ). eqb n 0) (sym g.number)))
 
 returns : tie.Need-returns
 returns c =
-    let n = c.before.before.before.before.before.before.before.before.before.is_negative.ensures in
-    c.measure.ensures ∙ ap measure_of (c.before.before.before.plan_cardinal.ensures.1 ∙ rw (n, (grouped c.before.before.before.before).number) refl)
+    let n = c.before.before.before.before.before.before.before.before.before.is_negative-minus.ensures in
+    c.measure.ensures ∙ ap measure_of (c.before.before.before.plan_cardinal-pieces.ensures.1 ∙ rw (n, (grouped c.before.before.before.before).number) refl)
 
 pub measure_spec : {M : Type 1} → statement M
 measure_spec =

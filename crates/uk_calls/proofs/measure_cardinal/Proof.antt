@@ -15,7 +15,7 @@ use Rattle.uk_calls.proofs.measure_cardinal.Tie as tie
 
 -- nothing is refused
 none : (c : tie.Then1) → let a = c.before.before.before.args in Unrefused (ukrainian_ranges (ukrainian_settings a.gender a.number a.case a.apostrophe a.style)) (cardinal_refusals 66 a.text.now)
-none c = unrefused (sym c.before.refuse.ensures ∙ c.if1.true)
+none c = unrefused (sym c.before.refuse-n.ensures ∙ c.if-n-eq0.true)
 
 measure-requires : tie.Need-measure-requires
 measure-requires c κs =
@@ -24,14 +24,14 @@ measure-requires c κs =
     let f = passed (well_formed t) false (length (unsigned t)) 66 p.others in
     (rw c.ukrainian.ensures p.settings, f.formed, f.within)
 
-returns : tie.Need-returns
+returns : tie.Need-returns-then-n-eq0
 returns c =
     let a = c.before.before.before.before.before.args in
-    let z : (uk_to_cardinal (ukrainian_settings a.gender a.number a.case a.apostrophe a.style) a.text.now).refusal ≡ 0 = sym c.before.before.before.refuse.ensures ∙ c.before.before.if1.true in
+    let z : (uk_to_cardinal (ukrainian_settings a.gender a.number a.case a.apostrophe a.style) a.text.now).refusal ≡ 0 = sym c.before.before.before.refuse-n.ensures ∙ c.before.before.if-n-eq0.true in
     rw z (rw c.before.ukrainian.ensures at c.measure.ensures)
 
 pub measure_cardinal_spec : {M : Type 1} → statement M
 measure_cardinal_spec =
     tie.close
     (tie.spec (λ c κs. search rules) (λ c κs. (none c).test) measure-requires (λ c κs. search rules) returns
-    (λ c. c.unmeasured.ensures _ (sym c.before.before.refuse.ensures)))
+    (λ c. c.unmeasured.ensures _ (sym c.before.before.refuse-n.ensures)))

@@ -25,9 +25,9 @@ read_spec =
     tie.close
     (tie.spec
     (λ c κs. (in_range (ukrainian_ranges c.before.before.before.args.settings) c.before.before.before.requires, refl))
-    (λ c. sym c.before.read_cardinal.ensures.0.2)
-    (λ c κs. let p = c.before.before.read_cardinal.ensures in ((p.0.1, p.1), (omega (arith, p.0.2), omega (arith, p.0.2))))
+    (λ c. sym c.before.read_cardinal-read.ensures.0.2)
+    (λ c κs. let p = c.before.before.read_cardinal-read.ensures in ((p.0.1, p.1), (omega (arith, p.0.2), omega (arith, p.0.2))))
     (λ c. search rules)
     (λ c.
     let a = c.before.before.before.before.before.before.before.before.before.args in
-    read_right (Says (ukrainian a.settings)) _ c.before.before.before.before.before.before.before.before.before.requires a.said.now _ a.out.now _ _ (bounded a.settings a.said.now) _ c.before.before.before.before.before.read_cardinal.ensures.0.0 c.before.before.put_read.ensures))
+    read_right (Says (ukrainian a.settings)) _ c.before.before.before.before.before.before.before.before.before.requires a.said.now _ a.out-1.now _ _ (bounded a.settings a.said.now) _ c.before.before.before.before.before.read_cardinal-read.ensures.0.0 c.before.before.put_read.ensures))

@@ -9,7 +9,7 @@ use Rattle.uk_money.proofs.agreed_place.Tie as tie
 
 returns : tie.Need-returns
 returns c =
-    let a = c.before.before.agreement.ensures in
+    let a = c.before.before.agreement-a.ensures in
     let n = ap (λ (S : Settings). S.number) a.0 in
     let k = ap (λ (S : Settings). S.case) a.0 in
     (omega (arith, a.1.1.0, a.1.1.1.0), record { number_is = omega (arith, n, a.1.1.1.0); case_is = omega (arith, k, a.1.1.1.0) })

@@ -12,40 +12,40 @@ use Rattle.uk_money_calls.proofs.measure_currency.Tie as tie
 measure-requires : tie.Need-measure-requires
 measure-requires c κs =
     let a = c.before.before.before.before.before.before.before.before.before.before.args in (
-      rw c.ukrainian.ensures (within_holds (ukrainian_ranges (ukrainian_settings a.gender a.number a.case a.apostrophe a.style)) (sym c.before.before.before.before.before.before.before.is_ukrainian.ensures ∙ c.before.before.before.before.before.before.if1.true)),
-      c.before.before.before.before.if2.true,
-      sym (c.before.before.number_of_lem.ensures ∙ c.before.before.before.judge_amount.ensures) ∙ c.before.if3.true,
+      rw c.ukrainian-settings.ensures (within_holds (ukrainian_ranges (ukrainian_settings a.gender a.number a.case a.apostrophe a.style)) (sym c.before.before.before.before.before.before.before.is_ukrainian.ensures ∙ c.before.before.before.before.before.before.if-is_ukrainian.true)),
+      c.before.before.before.before.if-currency-lt-CURRENCIES.true,
+      sym (c.before.before.number_of_lem.ensures ∙ c.before.before.before.judge_amount.ensures) ∙ c.before.if-n-eq0.true,
     )
 
-returns : tie.Need-returns
+returns : tie.Need-returns-then-n-eq0
 returns c =
     let k = c.before.before.before.before.before.before.code_of_lem in
-    let w = sym c.before.before.before.before.before.before.before.before.is_ukrainian.ensures ∙ c.before.before.before.before.before.before.before.if1.true in
-    let z = sym (c.before.before.before.number_of_lem.ensures ∙ c.before.before.before.before.judge_amount.ensures) ∙ c.before.before.if3.true in
-    rw (w, known_code _ (rw k.ensures at c.before.before.before.before.before.if2.true), z) (rw (c.before.ukrainian.ensures, k.ensures) at c.measure.ensures)
+    let w = sym c.before.before.before.before.before.before.before.before.is_ukrainian.ensures ∙ c.before.before.before.before.before.before.before.if-is_ukrainian.true in
+    let z = sym (c.before.before.before.number_of_lem.ensures ∙ c.before.before.before.before.judge_amount.ensures) ∙ c.before.before.if-n-eq0.true in
+    rw (w, known_code _ (rw k.ensures at c.before.before.before.before.before.if-currency-lt-CURRENCIES.true), z) (rw (c.before.ukrainian-settings.ensures, k.ensures) at c.measure.ensures)
 
-returns-2 : tie.Need-returns-2
+returns-2 : tie.Need-returns-then-currency-lt-CURRENCIES
 returns-2 c =
     let a = c.before.before.before.before.before.before.before.before.before.before.args in
     let call = uk_to_currency (ukrainian_settings a.gender a.number a.case a.apostrophe a.style) a.code.now a.text.now in
-    let w = sym c.before.before.before.before.before.before.before.is_ukrainian.ensures ∙ c.before.before.before.before.before.before.if1.true in
-    c.unmeasured.ensures call (rw (w, known_code _ (rw c.before.before.before.before.before.code_of_lem.ensures at c.before.before.before.before.if2.true)) (sym (c.before.before.number_of_lem.ensures ∙ c.before.before.before.judge_amount.ensures)))
+    let w = sym c.before.before.before.before.before.before.before.is_ukrainian.ensures ∙ c.before.before.before.before.before.before.if-is_ukrainian.true in
+    c.unmeasured.ensures call (rw (w, known_code _ (rw c.before.before.before.before.before.code_of_lem.ensures at c.before.before.before.before.if-currency-lt-CURRENCIES.true)) (sym (c.before.before.number_of_lem.ensures ∙ c.before.before.before.judge_amount.ensures)))
 
-returns-3 : tie.Need-returns-3
+returns-3 : tie.Need-returns-then-is_ukrainian
 returns-3 c =
     let a = c.before.before.before.before.before.before.before.args in
     let call = uk_to_currency (ukrainian_settings a.gender a.number a.case a.apostrophe a.style) a.code.now a.text.now in
-    let w = sym c.before.before.before.before.is_ukrainian.ensures ∙ c.before.before.before.if1.true in
-    c.unmeasured2.ensures call (rw (w, unknown_code _ (rw c.before.before.code_of_lem.ensures at c.before.if2.false)) refl)
+    let w = sym c.before.before.before.before.is_ukrainian.ensures ∙ c.before.before.before.if-is_ukrainian.true in
+    c.unmeasured-then-is_ukrainian.ensures call (rw (w, unknown_code _ (rw c.before.before.code_of_lem.ensures at c.before.if-currency-lt-CURRENCIES.false)) refl)
 
-returns-4 : tie.Need-returns-4
+returns-4 : tie.Need-returns
 returns-4 c =
     let a = c.before.before.before.before.before.args in
     let call = uk_to_currency (ukrainian_settings a.gender a.number a.case a.apostrophe a.style) a.code.now a.text.now in
-    c.unmeasured3.ensures call (rw (sym c.before.before.is_ukrainian.ensures ∙ c.before.if1.false) refl)
+    c.unmeasured-2.ensures call (rw (sym c.before.before.is_ukrainian.ensures ∙ c.before.if-is_ukrainian.false) refl)
 
 pub measure_currency_spec : {M : Type 1} → statement M
 measure_currency_spec =
     tie.close
-    (tie.spec (λ c κs. search rules) (λ c κs. search rules) (λ c κs. search rules) (λ c κs. search rules) (λ c κs. sym c.before.before.before.before.before.before.is_ukrainian.ensures ∙ c.before.before.before.before.before.if1.true) measure-requires
+    (tie.spec (λ c κs. search rules) (λ c κs. search rules) (λ c κs. search rules) (λ c κs. search rules) (λ c κs. sym c.before.before.before.before.before.before.is_ukrainian.ensures ∙ c.before.before.before.before.before.if-is_ukrainian.true) measure-requires
     returns (λ c κs. search rules) returns-2 (λ c κs. search rules) returns-3 (λ c κs. search rules) returns-4)

@@ -14,31 +14,31 @@ use Rattle.uk_money_calls.proofs.Entries.{seen_none, seen_some}
 use Rattle.uk_money_calls.proofs.read.Statement.{statement}
 use Rattle.uk_money_calls.proofs.read.Tie as tie
 
-returns : tie.Need-returns
+returns : tie.Need-returns-in-Refused
 returns c =
     let a = c.before.before.before.before.before.before.before.args in
-    let p = c.before.before.before.read_money in
-    seen_none a.settings (currency_at a.currency) c.before.before.before.before.before.before.before.requires.0 a.said.now p.new.1.1.1.0 a.out.now a.out.now _
-    (subst (λ (x : SeenAmount). ReadMoney a.settings (currency_at a.currency) a.said.now x p.new.1.1.1.0) c.before.enum_told.given.1 p.ensures.0)
+    let p = c.before.before.before.read_money-read in
+    seen_none a.settings (currency_at a.currency) c.before.before.before.before.before.before.before.requires.0 a.said.now p.new.1.1.1.0 a.out-1.now a.out-1.now _
+    (subst (λ (x : SeenAmount). ReadMoney a.settings (currency_at a.currency) a.said.now x p.new.1.1.1.0) c.before.enum_told-1.given.1 p.ensures.0)
     (refuses c.refused.ensures)
 
-returns-2 : tie.Need-returns-2
+returns-2 : tie.Need-returns-in-Amount
 returns-2 c =
     let a = c.before.before.before.before.before.before.before.before.before.before.before.before.args in
-    let p = c.before.before.before.before.before.before.before.before.read_money in
-    let h = c.before.before.before.before.before.before.seen.given in
-    seen_some a.settings (currency_at a.currency) c.before.before.before.before.before.before.before.before.before.before.before.before.requires.0 a.said.now p.new.1.1.1.0 a.out.now _ c.before.before.put_money_text.result h.0.0
+    let p = c.before.before.before.before.before.before.before.before.read_money-read in
+    let h = c.before.before.before.before.before.before.seen-1.given in
+    seen_some a.settings (currency_at a.currency) c.before.before.before.before.before.before.before.before.before.before.before.before.requires.0 a.said.now p.new.1.1.1.0 a.out-1.now _ c.before.before.put_money_text.result h.0.0
     (subst (λ (x : SeenAmount). ReadMoney a.settings (currency_at a.currency) a.said.now x p.new.1.1.1.0) h.1 p.ensures.0)
     c.before.before.put_money_text.ensures
 
-put-money-text-requires : tie.Need-put-money-text-requires
+put-money-text-requires : tie.Need-put_money_text-requires
 put-money-text-requires c κs =
-    let p = c.before.before.before.before.before.read_money.ensures in
-    let h = c.before.before.before.seen.given in
+    let p = c.before.before.before.before.before.read_money-read.ensures in
+    let h = c.before.before.before.seen-1.given in
     ((p.0.groups, p.1), ((omega (arith, p.0.size), omega (arith, p.0.size)), subst (λ (x : SeenAmount). seen_hundredths x < 100) h.1 p.0.hundredths))
 
 pub read_spec : {M : Type 1} → statement M
 read_spec =
     tie.close
-    (tie.spec (λ c κs. let s = c.before.before.before in (in_range (ukrainian_ranges s.args.settings) s.requires.0, s.requires.1, refl)) (λ c. search rules) (λ c κs. search rules) (λ c. search rules) (λ c. sym c.before.before.before.before.read_money.ensures.0.size) put-money-text-requires
+    (tie.spec (λ c κs. let s = c.before.before.before in (in_range (ukrainian_ranges s.args.settings) s.requires.0, s.requires.1, refl)) (λ c. search rules) (λ c κs. search rules) (λ c. search rules) (λ c. sym c.before.before.before.before.read_money-read.ensures.0.size) put-money-text-requires
     returns (λ c. search rules) returns-2)

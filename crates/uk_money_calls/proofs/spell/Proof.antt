@@ -22,10 +22,10 @@ use Rattle.uk_money_calls.proofs.spell.Statement.{statement}
 use Rattle.uk_money_calls.proofs.spell.Tie as tie
 
 -- the digits of the whole part
-whole_is : (c : tie.After-after-sign) → c.after_sign.result.now ≡ unsigned (whole_text c.before.before.before.before.before.args.text.now)
-whole_is c = c.after_sign.ensures ∙ ap unsigned c.before.before.whole_part.ensures
+whole_is : (c : tie.After-after-sign) → c.after_sign-digits.result.now ≡ unsigned (whole_text c.before.before.before.before.before.args.text.now)
+whole_is c = c.after_sign-digits.ensures ∙ ap unsigned c.before.before.whole_part-whole.ensures
 
-value-of-requires : tie.Need-value-of-requires
+value-of-requires : tie.Need-value_of-hundredths-requires
 value-of-requires c κs =
     let s = c.before.before.before.before.before.before.before.before in
     let t = s.args.text.now in
@@ -40,28 +40,28 @@ small : (c : tie.After-value-of) → c.value_of_lem.result < 100
 small c = let s = c.before.before.before.before.before.before.before.before.before in rw (part_is c) (hundredths_small s.args.text.now s.requires.2)
 
 -- the whole part's groups
-grouped : (c : tie.After-plan) → Held 22 (unsigned (whole_text c.before.before.before.before.before.before.before.before.before.before.before.args.text.now)) c.before.before.before.before.before.groups22.result c.before.before.before.before.count.result × (c.before.before.before.before.count.result ≤ 7)
+grouped : (c : tie.After-plan) → Held 22 (unsigned (whole_text c.before.before.before.before.before.before.before.before.before.before.before.args.text.now)) c.before.before.before.before.before.groups22-gs.result c.before.before.before.before.count-n.result × (c.before.before.before.before.count-n.result ≤ 7)
 grouped c =
     let s = c.before.before.before.before.before.before.before.before.before.before.before in
-    whole_held s.args.text.now s.requires.2 _ _ _ (whole_is c.before.before.before.before.before.before) c.before.before.before.before.before.groups22.ensures c.before.before.before.before.count.ensures
+    whole_held s.args.text.now s.requires.2 _ _ _ (whole_is c.before.before.before.before.before.before) c.before.before.before.before.before.groups22-gs.ensures c.before.before.before.before.count-n.ensures
 
-plan-money-requires : tie.Need-plan-money-requires
+plan-money-requires : tie.Need-plan_money-k-requires
 plan-money-requires c κs =
     let s = c.before.before.before.before.before.before.before.before.before.before.before in
     let g = grouped c in
-    let zero = c.before.before.before.before.before.before.before.is_zero.ensures ∙ ap (λ (l : List ℕ). eqb (value (unsigned l)) 0) c.before.before.before.before.before.before.before.before.whole_part.ensures ∙ ap (λ (n : ℕ). eqb n 0) (sym g.0.number) in
+    let zero = c.before.before.before.before.before.before.before.is_zero-zero.ensures ∙ ap (λ (l : List ℕ). eqb (value (unsigned l)) 0) c.before.before.before.before.before.before.before.before.whole_part-whole.ensures ∙ ap (λ (n : ℕ). eqb n 0) (sym g.0.number) in
     ((s.requires.0, s.requires.1, g.1, g.0.top.zeros, small c.before.before, omega arith), (g.0.below, g.0.size, zero))
 
 -- what the plan says
-phrase_is : (c : tie.After-plan-money) → let p = c.plan_money in let a = c.before.before.before.before.before.before.before.before.before.before.before.before.args in
+phrase_is : (c : tie.After-plan-money) → let p = c.plan_money-k in let a = c.before.before.before.before.before.before.before.before.before.before.before.before.args in
     phrase_of (says uk_pool p.new.1.1.1.1.1.1.0 p.result) ≡ amount_phrase a.settings (currency_at a.currency) (whole_of a.text.now) (hundredths_of a.text.now)
-phrase_is c = rw ((grouped c.before).0.number, part_is c.before.before.before) at c.plan_money.ensures.1
+phrase_is c = rw ((grouped c.before).0.number, part_is c.before.before.before) at c.plan_money-k.ensures.1
 
 pub spell_spec : {M : Type 1} → statement M
 spell_spec =
     tie.close
     (tie.spec (λ c κs. search rules)
-    (λ c κs. let s = c.before.before.before in ap well_formed c.whole_part.ensures ∙ whole_formed s.args.text.now s.requires.2)
-    (λ c κs. search rules) (λ c κs. let s = c.before.before.before.before.before in plain_digits c.after_sign.result.now (ap plain (whole_is c) ∙ plain_whole s.args.text.now s.requires.2)) (λ c κs. search rules) (λ c κs. search rules) value-of-requires (λ c. omega (arith, small c)) (λ c. search rules)
+    (λ c κs. let s = c.before.before.before in ap well_formed c.whole_part-whole.ensures ∙ whole_formed s.args.text.now s.requires.2)
+    (λ c κs. search rules) (λ c κs. let s = c.before.before.before.before.before in plain_digits c.after_sign-digits.result.now (ap plain (whole_is c) ∙ plain_whole s.args.text.now s.requires.2)) (λ c κs. search rules) (λ c κs. search rules) value-of-requires (λ c. omega (arith, small c)) (λ c. search rules)
     plan-money-requires (λ c. search rules) (λ c κs. search rules) (λ c. search rules)
-    (λ c. (heard _ _ _ (phrase_is c.before.before.before.before.before.before) c.before.before.speak.ensures.0, omega (arith, c.before.before.speak.ensures.1, c.before.before.before.before.before.before.plan_money.ensures.0))))
+    (λ c. (heard _ _ _ (phrase_is c.before.before.before.before.before.before) c.before.before.speak.ensures.0, omega (arith, c.before.before.speak.ensures.1, c.before.before.before.before.before.before.plan_money-k.ensures.0))))

@@ -11,7 +11,7 @@ pub say_adjective_spec : {M : Type 1} → statement M
 say_adjective_spec =
     tie.close
     (tie.spec
-    (λ c S p. retell 2 (quiet 2 _ _) (omega arith) (no_adjective S _ c.if1.true))
+    (λ c S p. retell 2 (quiet 2 _ _) (omega arith) (no_adjective S _ c.if-stem-eq0.true))
     (λ c κs. search rules) (λ c κs. search rules)
     (λ c. search rules)
-    (λ c S p. retell 2 c.before.before.say_form.ensures (omega arith) (adjective_is S _ _ _ p c.before.before.before.before.before.if1.false c.before.before.before.before.ending.ensures)))
+    (λ c S p. retell 2 c.before.before.say_form.ensures (omega arith) (adjective_is S _ _ _ p c.before.before.before.before.before.if-stem-eq0.false c.before.before.before.before.ending.ensures)))

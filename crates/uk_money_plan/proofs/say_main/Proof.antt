@@ -10,4 +10,4 @@ say_main_spec =
     (tie.spec
     (λ c κs. search rules) (λ c κs. search rules)
     (λ c. search rules)
-    (λ c. c.before.before.say_count.ensures _ c.before.before.before.before.before.main_row.ensures))
+    (λ c. c.before.before.say_count.ensures _ c.before.before.before.before.before.main_row-row.ensures))

@@ -9,6 +9,6 @@ ending_spec =
     tie.close
     (tie.spec
     (λ c κs. search rules)
-    (λ c. rw c.before.if1.true c.soft_ending.ensures)
+    (λ c. rw c.before.if-soft.true c.soft_ending.ensures)
     (λ c κs. search rules)
-    (λ c. rw c.before.if1.false c.hard_ending.ensures))
+    (λ c. rw c.before.if-soft.false c.hard_ending.ensures))

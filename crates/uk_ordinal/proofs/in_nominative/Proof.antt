@@ -11,4 +11,4 @@ in_nominative_spec =
     (tie.spec
     (λ c κs. search rules)
     (λ c κs. search rules)
-    (λ c. cased 0 _ _ _ (search rules) c.before.before.requires c.before.in_form.ensures c.in_gender.ensures))
+    (λ c. cased 0 _ _ _ (search rules) c.before.before.requires c.before.in_form-form.ensures c.in_gender.ensures))

@@ -10,6 +10,6 @@ put_short_spec =
     (tie.spec
     (λ c κs. search rules)
     (λ c. search rules)
-    (λ c κs. rw c.before.before.texts.ensures c.before.before.before.before.requires)
+    (λ c κs. rw c.before.before.texts-lent.ensures c.before.before.before.before.requires)
     (λ c. search rules)
-    (λ c. rw c.before.before.before.before.before.texts.ensures at c.before.before.put.ensures))
+    (λ c. rw c.before.before.before.before.before.texts-lent.ensures at c.before.before.put.ensures))

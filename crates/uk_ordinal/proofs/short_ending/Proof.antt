@@ -13,8 +13,8 @@ short_ending_spec =
     tie.close
     (tie.spec
     (λ c. search rules) (λ c. search rules) (λ c. search rules) (λ c. search rules) (λ c. search rules) (λ c. search rules)
-    (λ c. rw (eq-eqb _ _ c.before.before.if1.true, c.before.if2.true) (short_soft_at _ _))
+    (λ c. rw (eq-eqb _ _ c.before.before.if-settings-eq-SINGULAR.true, c.before.if-soft.true) (short_soft_at _ _))
     (λ c. search rules) (λ c. search rules) (λ c. search rules) (λ c. search rules)
-    (λ c. rw (eq-eqb _ _ c.before.before.if1.true, c.before.if2.false) (short_hard_at _ _))
+    (λ c. rw (eq-eqb _ _ c.before.before.if-settings-eq-SINGULAR.true, c.before.if-soft.false) (short_hard_at _ _))
     (λ c. search rules) (λ c. search rules)
-    (λ c. rw (ne_eqb _ _ c.if1.false) (short_plural_at _)))
+    (λ c. rw (ne_eqb _ _ c.if-settings-eq-SINGULAR.false) (short_plural_at _)))

@@ -13,6 +13,6 @@ soft_ending_spec =
     tie.close
     (tie.spec
     (λ c. search rules) (λ c. search rules) (λ c. search rules) (λ c. search rules) (λ c. search rules) (λ c. search rules)
-    (λ c. rw (eq-eqb _ _ c.before.if1.true) (soft_at _ _))
+    (λ c. rw (eq-eqb _ _ c.before.if-settings-eq-SINGULAR.true) (soft_at _ _))
     (λ c. search rules) (λ c. search rules)
-    (λ c. rw (ne_eqb _ _ c.if1.false) (soft_plural_at _)))
+    (λ c. rw (ne_eqb _ _ c.if-settings-eq-SINGULAR.false) (soft_plural_at _)))

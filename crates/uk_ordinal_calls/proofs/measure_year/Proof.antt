@@ -9,22 +9,22 @@ use Rattle.uk_ordinal_calls.specs.UkOrdinals.{uk_to_year}
 use Rattle.uk_ordinal_calls.proofs.measure_year.Statement.{statement}
 use Rattle.uk_ordinal_calls.proofs.measure_year.Tie as tie
 
-year-measure-requires : tie.Need-year-measure-requires
+year-measure-requires : tie.Need-year_measure-requires
 year-measure-requires c κs =
     let a = c.before.before.before.args in
-    rw c.ukrainian.ensures (within_holds (ukrainian_ranges (ukrainian_settings a.gender a.number a.case a.apostrophe a.style)) (sym c.before.before.is_ukrainian.ensures ∙ c.before.if1.true))
+    rw c.ukrainian.ensures (within_holds (ukrainian_ranges (ukrainian_settings a.gender a.number a.case a.apostrophe a.style)) (sym c.before.before.is_ukrainian.ensures ∙ c.before.if-is_ukrainian.true))
 
-returns : tie.Need-returns
+returns : tie.Need-returns-then-is_ukrainian
 returns c =
-    rw (sym c.before.before.before.is_ukrainian.ensures ∙ c.before.before.if1.true) (rw (c.before.ukrainian.ensures, to_z-of_z c.before.before.before.before.ranges.year) at c.year_measure.ensures)
+    rw (sym c.before.before.before.is_ukrainian.ensures ∙ c.before.before.if-is_ukrainian.true) (rw (c.before.ukrainian.ensures, to_z-of_z c.before.before.before.before.ranges.year) at c.year_measure.ensures)
 
-returns-2 : tie.Need-returns-2
+returns-2 : tie.Need-returns-else-is_ukrainian
 returns-2 c =
     let a = c.before.before.before.args in
     let call = uk_to_year (ukrainian_settings a.gender a.number a.case a.apostrophe a.style) a.year in
-    c.unmeasured.ensures call (rw (sym c.before.before.is_ukrainian.ensures ∙ c.before.if1.false) refl)
+    c.unmeasured.ensures call (rw (sym c.before.before.is_ukrainian.ensures ∙ c.before.if-is_ukrainian.false) refl)
 
 pub measure_year_spec : {M : Type 1} → statement M
 measure_year_spec =
     tie.close
-    (tie.spec (λ c κs. search rules) (λ c κs. sym c.before.is_ukrainian.ensures ∙ c.if1.true) year-measure-requires (λ c κs. search rules) returns returns-2)
+    (tie.spec (λ c κs. search rules) (λ c κs. sym c.before.is_ukrainian.ensures ∙ c.if-is_ukrainian.true) year-measure-requires (λ c κs. search rules) returns returns-2)

@@ -15,12 +15,12 @@ use Rattle.uk_ordinal_calls.proofs.ordinal_measure.Statement.{statement}
 use Rattle.uk_ordinal_calls.proofs.ordinal_measure.Tie as tie
 
 -- the text's groups
-grouped : (c : tie.After-count) → Held 22 c.before.before.before.args.text.now c.before.groups22.result c.count.result
+grouped : (c : tie.After-count) → Held 22 c.before.before.before.args.text.now c.before.groups22-gs.result c.count.result
 grouped c =
     let s = c.before.before.before in
-    held 22 _ _ _ s.requires.1 s.requires.2 c.before.groups22.ensures c.count.ensures
+    held 22 _ _ _ s.requires.1 s.requires.2 c.before.groups22-gs.ensures c.count.ensures
 
-plan-ordinal-requires : tie.Need-plan-ordinal-requires
+plan-ordinal-requires : tie.Need-plan_ordinal-pieces-requires
 plan-ordinal-requires c κs =
     let g = grouped c.before.before in
     (c.before.before.before.before.before.requires.0, groups_22 _ g.size g.below, g.top, search rules)
@@ -30,7 +30,7 @@ returns c =
     let s = c.before.before.before.before.before.before.before.before.before in
     let t = s.args.text.now in
     let u = sym (ap value (unsigned_plain t (digits_unsigned t (plain_digits t s.requires.1)))) in
-    c.measure.ensures ∙ ap measure_of (c.before.before.before.plan_ordinal.ensures.1 ∙ ap (λ (n : ℕ). joined (ordinal_words s.args.settings n)) ((grouped c.before.before.before.before.before.before).number ∙ u))
+    c.measure.ensures ∙ ap measure_of (c.before.before.before.plan_ordinal-pieces.ensures.1 ∙ ap (λ (n : ℕ). joined (ordinal_words s.args.settings n)) ((grouped c.before.before.before.before.before.before).number ∙ u))
 
 pub ordinal_measure_spec : {M : Type 1} → statement M
 ordinal_measure_spec =

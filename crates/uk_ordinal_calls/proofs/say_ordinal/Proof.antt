@@ -16,12 +16,12 @@ use Rattle.uk_ordinal_calls.proofs.say_ordinal.Statement.{statement}
 use Rattle.uk_ordinal_calls.proofs.say_ordinal.Tie as tie
 
 -- the text's groups
-grouped : (c : tie.After-count) → Held 22 c.before.before.before.before.args.text.now c.before.groups22.result c.count.result
+grouped : (c : tie.After-count) → Held 22 c.before.before.before.before.args.text.now c.before.groups22-gs.result c.count.result
 grouped c =
     let s = c.before.before.before.before in
-    held 22 _ _ _ s.requires.1 s.requires.2 c.before.groups22.ensures c.count.ensures
+    held 22 _ _ _ s.requires.1 s.requires.2 c.before.groups22-gs.ensures c.count.ensures
 
-plan-ordinal-requires : tie.Need-plan-ordinal-requires
+plan-ordinal-requires : tie.Need-plan_ordinal-n-requires
 plan-ordinal-requires c κs =
     let g = grouped c.before.before in
     (c.before.before.before.before.before.before.requires.0, groups_22 _ g.size g.below, g.top, search rules)
@@ -32,7 +32,7 @@ returns c =
     let a = s.args in
     let t = a.text.now in
     let u = sym (ap value (unsigned_plain t (digits_unsigned t (plain_digits t s.requires.1)))) in
-    let p = c.before.before.before.before.before.before.plan_ordinal in
+    let p = c.before.before.before.before.before.before.plan_ordinal-n in
     (heard _ _ _ (p.ensures.1 ∙ ap (λ (n : ℕ). joined (ordinal_words a.settings n)) ((grouped c.before.before.before.before.before.before.before.before.before).number ∙ u)) c.before.before.speak.ensures.0, omega (arith, c.before.before.speak.ensures.1, p.ensures.0))
 
 pub say_ordinal_spec : {M : Type 1} → statement M

@@ -22,8 +22,8 @@ module _ (c : tie.After-gs2) where
   magnitude-is : c.before.before.before.magnitude.result ≡ nat_abs c.before.before.before.before.before.args.year
   magnitude-is = c.before.before.before.magnitude.ensures ∙ ap nat_abs (to_z-of_z c.before.before.before.before.before.ranges.year)
 
-  groups-are : c.before.groups_from.new.1.0 ≡ groups_of 22 (nat_abs c.before.before.before.before.before.args.year)
-  groups-are = c.before.groups_from.ensures.0 ∙ ap (groups_of 22) magnitude-is
+  groups-are : c.before.groups_from-k.new.1.0 ≡ groups_of 22 (nat_abs c.before.before.before.before.before.args.year)
+  groups-are = c.before.groups_from-k.ensures.0 ∙ ap (groups_of 22) magnitude-is
 
   held : nat_abs c.before.before.before.before.before.args.year < 1000 ^ 22
   held =
@@ -33,7 +33,7 @@ module _ (c : tie.After-gs2) where
 returns : tie.Need-returns
 returns c =
     let s = c.before.before.before.before.before.before.before.before.before.before.before.before.before.before.before in
-    let p = c.before.before.before.before.before.before.plan_year in
+    let p = c.before.before.before.before.before.before.plan_year-n in
     let e = c.before.before.before.before.before.before.before.before.before.is_early in
     (heard _ _ _ (p.ensures.1 ∙ year_said s.args.settings _ e.result s.args.year (held c.before.before.before.before.before.before.before.before.before.before) (e.ensures ∙ ap early (to_z-of_z s.ranges.year)) (groups-are c.before.before.before.before.before.before.before.before.before.before)) c.before.before.speak.ensures.0, omega (arith, c.before.before.speak.ensures.1, p.ensures.0))
 
@@ -41,5 +41,5 @@ pub say_year_spec : {M : Type 1} → statement M
 say_year_spec =
     tie.close
     (tie.spec (λ c κs. search rules) (λ c. search rules) (λ c κs. search rules) (λ c κs. search rules) (λ c. search rules)
-    (λ c κs. (c.before.before.before.before.before.before.before.before.requires, groups_22 _ (rw (groups-are c.before.before.before) (groups_length 22 _)) (rw (groups-are c.before.before.before) (groups_below_lem 22 _)), c.before.before.before.before.groups_from.ensures.1, search rules))
+    (λ c κs. (c.before.before.before.before.before.before.before.before.requires, groups_22 _ (rw (groups-are c.before.before.before) (groups_length 22 _)) (rw (groups-are c.before.before.before) (groups_below_lem 22 _)), c.before.before.before.before.groups_from-k.ensures.1, search rules))
     (λ c. search rules) (λ c κs. search rules) (λ c. search rules) returns)

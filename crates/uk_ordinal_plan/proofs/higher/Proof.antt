@@ -12,12 +12,12 @@ use native.Mathlib.Omega.{arith}
 use Rattle.uk_ordinal_plan.proofs.higher.Statement.{statement}
 use Rattle.uk_ordinal_plan.proofs.higher.Tie as tie
 
-returns : tie.Need-returns
+returns : tie.Need-returns-then-lone
 unfolding listed
 returns c =
     let s = c.before.before in
     retell 110 (quiet 110 _ _) (omega arith)
-    (listed_high (ukrainian (in_nominative s.args.settings)) (set s.args.gs.now s.args.order 0) 0 22 (s.requires.1 c.if1.true) (omega arith))
+    (listed_high (ukrainian (in_nominative s.args.settings)) (set s.args.gs.now s.args.order 0) 0 22 (s.requires.1 c.if-lone.true) (omega arith))
 
 pub higher_spec : {M : Type 1} → statement M
 higher_spec =

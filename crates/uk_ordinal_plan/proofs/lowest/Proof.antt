@@ -9,20 +9,20 @@ use lib.ListN.{get_or}
 use Rattle.uk_ordinal_plan.proofs.lowest.Statement.{statement}
 use Rattle.uk_ordinal_plan.proofs.lowest.Tie as tie
 
-abbrev invariant-loop : tie.invariant-loop
+abbrev invariant-loop : tie.invariant-loop-i
 invariant-loop gs i₀ i = (i ≤ 22) × ((k : ℕ) → k < i → get_or gs k 0 ≡ 0)
 
-abbrev decreases-loop : tie.decreases-loop
+abbrev decreases-loop : tie.decreases-loop-i
 decreases-loop gs i₀ i = 22 - i
 
-returns : tie.Need-returns invariant-loop decreases-loop
-returns c = record { zeros = c.before.before.before.loop.invariant.1; some = λ h. c.if1.true; most = c.before.before.before.loop.invariant.0 }
+returns : tie.Need-returns-then-gs-i-ne0 invariant-loop decreases-loop
+returns c = record { zeros = c.before.before.before.loop-i.invariant.1; some = λ h. c.if-gs-i-ne0.true; most = c.before.before.before.loop-i.invariant.0 }
 
-loop-again : tie.Need-loop-preserved invariant-loop decreases-loop
-loop-again c = (search rules, below_more _ _ c.before.before.before.loop.invariant.1 c.if1.false)
+loop-again : tie.Need-loop-i-preserved invariant-loop decreases-loop
+loop-again c = (search rules, below_more _ _ c.before.before.before.loop-i.invariant.1 c.if-gs-i-ne0.false)
 
-returns-2 : tie.Need-returns-2 invariant-loop decreases-loop
-returns-2 c = record { zeros = λ i h. c.before.loop.invariant.1 i (omega arith); some = λ h. absurd (omega arith); most = omega arith }
+returns-2 : tie.Need-returns invariant-loop decreases-loop
+returns-2 c = record { zeros = λ i h. c.before.loop-i.invariant.1 i (omega arith); some = λ h. absurd (omega arith); most = omega arith }
 
 pub lowest_spec : {M : Type 1} → statement M
 lowest_spec =

@@ -9,21 +9,21 @@ use native.Mathlib.Omega.{arith}
 use Rattle.uk_ordinal_plan.proofs.plan_year.Statement.{statement}
 use Rattle.uk_ordinal_plan.proofs.plan_year.Tie as tie
 
-ordinal-under-requires : tie.Need-ordinal-under-requires
+ordinal-under-requires : tie.Need-ordinal_under-a-requires
 ordinal-under-requires c κs =
     let s = c.before.before.before.before in
-    (rw (c.before.packed.ensures, c.before.before.in_gender.ensures) (gendered 0 s.args.settings (omega arith) s.requires.0), s.requires.1, s.requires.2, omega (arith, s.requires.3))
+    (rw (c.before.packed-code.ensures, c.before.before.in_gender.ensures) (gendered 0 s.args.settings (omega arith) s.requires.0), s.requires.1, s.requires.2, omega (arith, s.requires.3))
 
-say-era-requires : tie.Need-say-era-requires
+say-era-requires : tie.Need-say_era-requires
 say-era-requires c κs =
-    let p = c.before.before.before.before.before.before.before.before.ordinal_under in
-    let q = c.before.before.before.push in
+    let p = c.before.before.before.before.before.before.before.before.ordinal_under-a in
+    let q = c.before.before.before.push-b in
     omega (arith, c.before.before.before.before.before.before.before.before.before.before.before.before.before.requires.3, p.ensures.said.added.near, p.auto.1.1.1.0, (q.ensures uk_pool).near, q.auto.0)
 
 returns : tie.Need-returns
 returns c =
-    let w = rw (c.before.before.before.before.before.before.before.before.before.before.before.before.before.packed.ensures, c.before.before.before.before.before.before.before.before.before.before.before.before.before.before.in_gender.ensures) at c.before.before.before.before.before.before.before.before.before.before.before.ordinal_under.ensures in
-    let y = tell 3 (told_word (c.before.before.before.before.before.before.push.ensures uk_pool) c.before.before.before.before.before.before.before.year_word.ensures) c.before.before.say_era.ensures (omega arith) in
+    let w = rw (c.before.before.before.before.before.before.before.before.before.before.before.before.before.packed-code.ensures, c.before.before.before.before.before.before.before.before.before.before.before.before.before.before.in_gender.ensures) at c.before.before.before.before.before.before.before.before.before.before.before.ordinal_under-a.ensures in
+    let y = tell 3 (told_word (c.before.before.before.before.before.before.push-b.ensures uk_pool) c.before.before.before.before.before.before.before.year_word.ensures) c.before.before.say_era.ensures (omega arith) in
     let p = speak 119 w (told y) (omega arith) in
     (p.said.added.near, spoken_phrase p)
 

@@ -11,10 +11,10 @@ use Rattle.uk_ordinal_read.proofs.Ends.{none_from, none_last, last_after, last_a
 use Rattle.uk_ordinal_read.proofs.last_start.Statement.{statement}
 use Rattle.uk_ordinal_read.proofs.last_start.Tie as tie
 
-abbrev invariant-loop : tie.invariant-loop
+abbrev invariant-loop : tie.invariant-loop-at
 invariant-loop s at₀ at = (at ≤ length s) × (spaced (drop at s) ≡ false)
 
-abbrev decreases-loop : tie.decreases-loop
+abbrev decreases-loop : tie.decreases-loop-at
 decreases-loop s at₀ at = at
 
 pub last_start_spec : {M : Type 1} → statement M
@@ -27,11 +27,11 @@ last_start_spec =
     (λ c. search rules)
     (λ c. search rules)
     (λ c.
-    let l = c.before.before.before.loop in
-    last_after c.before.before.before.before.args.s.now l.at c.before.before.loop-test.true l.invariant.0 c.if1.true l.invariant.1)
+    let l = c.before.before.before.loop-at in
+    last_after c.before.before.before.before.args.s.now l.at c.before.before.loop-at-test.true l.invariant.0 c.if-s-at-eq32.true l.invariant.1)
     (λ c. search rules)
     (λ c. search rules)
     (λ c.
-    let l = c.before.before.before.loop in
-    (omega arith, none_from c.before.before.before.before.args.s.now l.at c.before.before.loop-test.true l.invariant.0 c.if1.false l.invariant.1))
-    (λ c. let l = c.before.loop in last_all c.before.before.args.s.now l.at c.loop-test.false l.invariant.1))
+    let l = c.before.before.before.loop-at in
+    (omega arith, none_from c.before.before.before.before.args.s.now l.at c.before.before.loop-at-test.true l.invariant.0 c.if-s-at-eq32.false l.invariant.1))
+    (λ c. let l = c.before.loop-at in last_all c.before.before.args.s.now l.at c.loop-at-test.false l.invariant.1))

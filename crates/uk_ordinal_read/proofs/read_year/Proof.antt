@@ -16,28 +16,28 @@ use Rattle.uk_ordinal_read.proofs.read_year.Tie as tie
 
 -- the groups that were made of the ordinal
 made : (c : tie.After-guess) → let a = c.before.before.before.before.before.before in
-    c.guess.new.1.1.0 ≡ ordinal_groups (in_gender masculine a.args.settings) (year_ordinal a.args.settings c.before.before.before.before.seems_early.result a.args.s.now)
+    c.guess-n.new.1.1.0 ≡ ordinal_groups (in_gender masculine a.args.settings) (year_ordinal a.args.settings c.before.before.before.before.seems_early-early.result a.args.s.now)
 made c =
     let a = c.before.before.before.before.before.before in
     let M = in_gender masculine a.args.settings in
-    c.guess.ensures.0.0 ∙ ap (λ (S : Settings). ordinal_groups S c.before.before.before.ordinal.result.now) c.before.before.in_gender.ensures ∙ ap (ordinal_groups M) c.before.before.before.ordinal.ensures
+    c.guess-n.ensures.0.0 ∙ ap (λ (S : Settings). ordinal_groups S c.before.before.before.ordinal-ordinal.result.now) c.before.before.in_gender.ensures ∙ ap (ordinal_groups M) c.before.before.before.ordinal-ordinal.ensures
 
 -- what the two tests decide
 decides : (c : tie.Joined1) → let a = c.before.before.before.before.before.before.before.before.before in let g = c.before.before.before in
-    Decides c.if1.stands (Tested a.args.settings a.requires.0 a.requires.1 a.args.s.now g.guess.new.1.1.0 c.before.before.before.before.before.before.before.seems_early.result c.before.before.before.before.before.before.before.seems_early.ensures (made g))
+    Decides c.if-is_year.stands (Tested a.args.settings a.requires.0 a.requires.1 a.args.s.now g.guess-n.new.1.1.0 c.before.before.before.before.before.before.before.seems_early-early.result c.before.before.before.before.before.before.before.seems_early-early.ensures (made g))
 decides c =
     let a = c.before.before.before.before.before.before.before.before.before in
     let g = c.before.before.before in
     let s = a.args.s.now in
-    let gs = g.guess.new.1.1.0 in
-    let e = c.before.before.before.before.before.before.before.seems_early in
+    let gs = g.guess-n.new.1.1.0 in
+    let e = c.before.before.before.before.before.before.before.seems_early-early in
     let y = c.before.is_year in
     ⊎_elim
-    (λ w. as_year a.args.settings a.requires.0 a.requires.1 s gs e.result e.ensures (made g) c.if1.stands w.2.result w.3 (sym y.ensures ∙ w.0.taken) w.2.ensures)
-    (λ w. no_year a.args.settings a.requires.0 a.requires.1 s gs e.result e.ensures (made g) c.if1.stands w.1 (sym y.ensures ∙ w.0.left))
-    c.if1.branch
+    (λ w. as_year a.args.settings a.requires.0 a.requires.1 s gs e.result e.ensures (made g) c.if-is_year.stands w.2.result w.3 (sym y.ensures ∙ w.0.taken) w.2.ensures)
+    (λ w. no_year a.args.settings a.requires.0 a.requires.1 s gs e.result e.ensures (made g) c.if-is_year.stands w.1 (sym y.ensures ∙ w.0.left))
+    c.if-is_year.branch
 
-guess-requires : tie.Need-guess-requires
+guess-requires : tie.Need-guess-n-requires
 guess-requires c κs =
     let a = c.before.before.before.before.before in
     (rw c.before.in_gender.ensures (gendered masculine a.args.settings (omega arith) a.requires.0), a.requires.2)
@@ -46,11 +46,11 @@ returns : tie.Need-returns
 returns c =
     let a = c.before.before.before.before.before.before.before.before.before.before in
     let g = c.before.before.before.before in
-    let e = c.before.before.before.before.before.before.before.before.seems_early in
-    let t = g.guess.ensures in (
+    let e = c.before.before.before.before.before.before.before.before.seems_early-early in
+    let t = g.guess-n.ensures in (
       (
-        rw c.seen_of.ensures
-            (year_read a.args.settings a.requires.0 a.requires.1 a.args.s.now g.guess.new.1.1.0 e.result e.ensures (made g) c.before.if1.stands (eqb g.guess.result 0) t.1.1 (decides c.before)),
+        rw c.seen_of-seen.ensures
+            (year_read a.args.settings a.requires.0 a.requires.1 a.args.s.now g.guess-n.new.1.1.0 e.result e.ensures (made g) c.before.if-is_year.stands (eqb g.guess-n.result 0) t.1.1 (decides c.before)),
         t.0.1,
         t.0.2,
       ),

@@ -33,7 +33,7 @@ unfolding listed
 +groups_spec =
     close μ λ t.
     groups-lts.spec (unpacked-reads.Asked, unpacked-reads.Learnt, group-Reads.Asked, group-Reads.Learnt, below t, groups-reads.Post) (at t) groups-reads.Post
-    (λ c. rw c.if1.true (quiet _ _ _))
+    (λ c. rw c.if-n-eq0.true (quiet _ _ _))
     (λ c. search rules)
     (λ c κs. search rules)
     (λ c. search rules)
@@ -41,12 +41,12 @@ unfolding listed
     (λ c κs. let s = c.before.before.before.before.before in (rw c.before.before.unpacked.ensures s.requires.1.0, omega arith, omega (arith, s.requires.1.2)))
     (λ c κs.
     let s = c.before.before.before.before.before.before.before.before.before in
-    let p = c.before.before.before.group in
+    let p = c.before.before.before.group-k in
     (omega (arith, s.requires.0), (s.requires.1.0, omega arith, omega (arith, s.requires.1.2, p.ensures.added.near, p.auto.1.1.1.0))))
-    (λ c. c.before.before.groups.auto.1.1.1.0 ∙ c.before.before.before.before.before.before.group.auto.1.1.1.0)
+    (λ c. c.before.before.groups.auto.1.1.1.0 ∙ c.before.before.before.before.before.before.group-k.auto.1.1.1.0)
     (λ c.
     let s = c.before.before.before.before.before.before.before.before.before.before.before.before in
     let n = s.args.n in
-    let z = c.before.before.before.before.before.before.before.before.before.before.if1.false in
-    retell (5 * n) (tell (5 * n) (rw c.before.before.before.before.before.before.before.before.before.unpacked.ensures at c.before.before.before.before.before.before.group.ensures) c.before.before.groups.ensures (omega (arith, z))) (omega arith)
+    let z = c.before.before.before.before.before.before.before.before.before.before.if-n-eq0.false in
+    retell (5 * n) (tell (5 * n) (rw c.before.before.before.before.before.before.before.before.before.unpacked.ensures at c.before.before.before.before.before.before.group-k.ensures) c.before.before.groups.ensures (omega (arith, z))) (omega arith)
     (listed_more (ukrainian (settings_in s.args.code)) s.args.gs.now n z))

@@ -14,12 +14,12 @@ unfolding scale_noun
 noun_word_spec =
     tie.close
     (tie.spec
-    (λ c. rw c.if1.true (quiet 2 _ _))
+    (λ c. rw c.if-order-eq0.true (quiet 2 _ _))
     (λ c κs. search rules) (λ c κs. search rules) (λ c κs. search rules) (λ c κs. search rules)
-    (λ c κs. omega (arith, c.before.before.before.before.before.before.before.before.before.before.requires.2, (c.before.before.before.before.before.push.ensures uk_pool).near, c.before.before.before.before.before.push.auto.0))
+    (λ c κs. omega (arith, c.before.before.before.before.before.before.before.before.before.before.requires.2, (c.before.before.before.before.before.push-k.ensures uk_pool).near, c.before.before.before.before.before.push-k.auto.0))
     (λ c. search rules)
     (λ c.
     let s = c.before.before.before.before.before.before.before.before.before.before.before.before.before in
     let a = c.before.before.before.before.before.agreement.ensures.0 in
-    retell 2 (told_ended (c.before.before.before.before.before.before.before.before.push.ensures uk_pool) (c.before.before.push2.ensures uk_pool) c.before.before.before.before.before.before.before.before.before.scale.ensures (rw a at c.before.before.before.before.scale_ending.ensures)) (omega arith)
-    (noun_some s.args.settings s.args.order s.args.t s.args.u c.before.before.before.before.before.before.before.before.before.before.before.if1.false)))
+    retell 2 (told_ended (c.before.before.before.before.before.before.before.before.push-k.ensures uk_pool) (c.before.before.push.ensures uk_pool) c.before.before.before.before.before.before.before.before.before.scale.ensures (rw a at c.before.before.before.before.scale_ending-ending.ensures)) (omega arith)
+    (noun_some s.args.settings s.args.order s.args.t s.args.u c.before.before.before.before.before.before.before.before.before.before.before.if-order-eq0.false)))

@@ -25,13 +25,13 @@ say_cardinal_spec =
     let s = c.before.before.before.before.before.before.before in
     let n = total s.args.gs.now in
     retell _ (told_word (c.before.before.push.ensures uk_pool) c.before.before.before.zero.ensures) (omega arith)
-    (sym (cardinal_zero (ukrainian s.args.settings) s.args.negative n (eqb-true n 0 (sym s.requires.1.2 ∙ c.before.before.before.before.before.if1.true)))))
+    (sym (cardinal_zero (ukrainian s.args.settings) s.args.negative n (eqb-true n 0 (sym s.requires.1.2 ∙ c.before.before.before.before.before.if-zero.true)))))
     (λ c κs. search rules) (λ c κs. search rules)
     (λ c. search rules)
     (λ c.
     let s = c.before.before.before.before.before.before.before.before.before.before in
     let a = s.args in
     let n = total a.gs.now in
-    retell (5 * a.n + 1) (tell (5 * a.n + 1) c.before.before.before.before.before.before.sign.ensures c.before.before.say_groups.ensures (omega arith)) (omega arith)
+    retell (5 * a.n + 1) (tell (5 * a.n + 1) c.before.before.before.before.before.before.sign-k.ensures c.before.before.say_groups.ensures (omega arith)) (omega arith)
     (cardinal_listed (ukrainian a.settings) a.gs.now a.negative a.n s.requires.1.0 s.requires.1.1 s.requires.0.2 s.requires.0.1
-    (eqb-false n 0 (sym s.requires.1.2 ∙ c.before.before.before.before.before.before.before.before.if1.false)))))
+    (eqb-false n 0 (sym s.requires.1.2 ∙ c.before.before.before.before.before.before.before.before.if-zero.false)))))

@@ -14,5 +14,5 @@ sign_spec =
     (tie.spec
     (λ c κs. search rules) (λ c κs. search rules)
     (λ c. search rules)
-    (λ c. rw c.before.before.before.before.before.if1.true (told_word (c.before.before.push.ensures uk_pool) c.before.before.before.minus.ensures))
-    (λ c. rw c.if1.false (quiet 1 _ _)))
+    (λ c. rw c.before.before.before.before.before.if-negative.true (told_word (c.before.before.push.ensures uk_pool) c.before.before.before.minus.ensures))
+    (λ c. rw c.if-negative.false (quiet 1 _ _)))

@@ -12,7 +12,7 @@ pub unit_word_spec : {M : Type 1} → statement M
 unit_word_spec =
     tie.close
     (tie.spec
-    (λ c. retell 1 (quiet 1 _ _) (omega arith) (opt_none _ _ c.if1.true))
+    (λ c. retell 1 (quiet 1 _ _) (omega arith) (opt_none _ _ c.if-u-eq0.true))
     (λ c κs. search rules) (λ c κs. search rules)
     (λ c. search rules)
-    (λ c. retell 1 (told_word (c.before.before.push.ensures uk_pool) c.before.before.before.unit.ensures) (omega arith) (opt_some _ _ c.before.before.before.before.before.if1.false)))
+    (λ c. retell 1 (told_word (c.before.before.push.ensures uk_pool) c.before.before.before.unit.ensures) (omega arith) (opt_some _ _ c.before.before.before.before.before.if-u-eq0.false)))

@@ -32,28 +32,28 @@ pub +groups_spec : {M : Type 1} → statement M
     (λ c κs. search rules)
     (λ c. omega (arith, c.before.before.before.before.requires.1.0))
     (λ c. omega (arith, c.before.before.before.before.requires.1.0))
-    (λ c. omega (arith, c.before.first_group.ensures.1.1))
-    (λ c. c.before.first_group.ensures.1.1)
+    (λ c. omega (arith, c.before.first_group-g.ensures.1.1))
+    (λ c. c.before.first_group-g.ensures.1.1)
     (λ c. search rules)
     (λ c κs.
     let s = c.before.before.before.before.before.before in
-    let o = c.before.before.if2.true in
-    (omega (arith, s.requires.0, o), (omega (arith, s.requires.1.0, o), set_below s.args.out.now s.args.k s.requires.1.1 c.before.before.before.first_group.result.order _ o)))
-    (λ c. omega (arith, c.before.groups.ensures.1.0.1, from_length c.before.before.before.before.before.first_group.result.next c.before.before.before.before.before.before.before.before.args.s.now, c.before.before.before.before.before.first_group.ensures.1.1))
-    (λ c. omega (arith, c.before.before.before.before.before.before.before.before.requires.1.0, c.before.before.before.before.if2.true))
+    let o = c.before.before.if-order-k.true in
+    (omega (arith, s.requires.0, o), (omega (arith, s.requires.1.0, o), set_below s.args.out.now s.args.k s.requires.1.1 c.before.before.before.first_group-g.result.order _ o)))
+    (λ c. omega (arith, c.before.groups-below.ensures.1.0.1, from_length c.before.before.before.before.before.first_group-g.result.next c.before.before.before.before.before.before.before.before.args.s.now, c.before.before.before.before.before.first_group-g.ensures.1.1))
+    (λ c. omega (arith, c.before.before.before.before.before.before.before.before.requires.1.0, c.before.before.before.before.if-order-k.true))
     (λ c.
     let s = c.before.before.before.before.before.before.before.before in
-    let g = c.before.before.before.before.before.first_group in
-    let p = c.before.groups.ensures in
-    let o = c.before.before.before.before.if2.true in
+    let g = c.before.before.before.before.before.first_group-g in
+    let p = c.before.groups-below.ensures in
+    let o = c.before.before.before.before.if-order-k.true in
     let x = s.args.out.now in
-    let y = c.before.groups.new.1.1.0 in
+    let y = c.before.groups-below.new.1.1.0 in
     let k = s.args.k in
     let z = s.requires.1.1 in
     let a = g.result.order in
     let v = g.result.value in
     let i = g.result.next in
-    let n = c.before.groups.result.bytes in (
+    let n = c.before.groups-below.result.bytes in (
       (
         reads_below s.args.s.now x y k a v i n z o g.ensures.0.0 g.ensures.0.1 g.ensures.1.0 p.0.0,
         λ q. p.0.1 (set_groups x a v g.ensures.0.2 q),
@@ -66,4 +66,4 @@ pub +groups_spec : {M : Type 1} → statement M
         (rw g.ensures.0.1 (zeros_above k (split s.args.s.now)), omega (arith, o)),
       ),
     ))
-    (λ c. let s = c.before.before.before.before in no_groups s.args.s.now s.args.out.now s.args.k s.requires.1.1 (omega (arith, c.if2.false, c.before.first_group.ensures.0.1)))
+    (λ c. let s = c.before.before.before.before in no_groups s.args.s.now s.args.out.now s.args.k s.requires.1.1 (omega (arith, c.if-order-k.false, c.before.first_group-g.ensures.0.1)))

@@ -18,4 +18,4 @@ word_at_spec =
     (λ c κs. search rules)
     (λ c. let a = c.before.before.before.before.args in let f = c.first.ensures in
     let e = word_here a.s.now a.at c.first.result f.0 f.1 f.2 in (e, omega (arith, ap (λ (t : Token). t.next) e, goes_within a.s.now a.at (omega arith))))
-    (λ c. (word_none c.before.before.args.s.now c.before.before.args.at c.if1.false, search rules)))
+    (λ c. (word_none c.before.before.args.s.now c.before.before.args.at c.if-at-s.false, search rules)))

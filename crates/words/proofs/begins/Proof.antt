@@ -10,5 +10,5 @@ pub begins_spec : {M : Type 1} → statement M
 begins_spec =
     tie.close
     (tie.spec
-    (λ c. sym (too_short c.before.before.before.args.w.now c.before.before.before.args.s.now c.if1.true))
+    (λ c. sym (too_short c.before.before.before.args.w.now c.before.before.before.args.s.now c.if-s-n.true))
     (λ c κs. search rules) (λ c. search rules) (λ c κs. search rules) (λ c. search rules))

@@ -15,7 +15,7 @@ part_spec =
     (λ c. search rules) (λ c. search rules) (λ c. search rules) (λ c. search rules) (λ c κs. search rules)
     (λ c.
     let a = c.before.before.before.args in
-    let e = c.rest.ensures ∙ outside a.pool.now a.place _ _ refl refl c.before.if1.true in
+    let e = c.rest.ensures ∙ outside a.pool.now a.place _ _ refl refl c.before.if-pool-e.true in
     (e, omega (arith, ap length e, part_short a.pool.now a.place)))
     (λ c. search rules) (λ c. search rules) (λ c. search rules)
     (λ c.

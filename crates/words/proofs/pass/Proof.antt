@@ -11,5 +11,5 @@ pass_spec =
     tie.close
     (tie.spec
     (λ c κs. search rules) (λ c κs. search rules) (λ c. search rules)
-    (λ c. passed_part _ c.before.before.part.ensures.0 (sym c.if1.true ∙ c.before.begins.ensures))
-    (λ c. not_passed _ c.before.before.part.ensures.0 (sym c.if1.false ∙ c.before.begins.ensures)))
+    (λ c. passed_part _ c.before.before.part-w.ensures.0 (sym c.if-begins.true ∙ c.before.begins.ensures))
+    (λ c. not_passed _ c.before.before.part-w.ensures.0 (sym c.if-begins.false ∙ c.before.begins.ensures)))

@@ -9,10 +9,10 @@ use Rattle.words.proofs.Pieces.{further, apart, last_on}
 use Rattle.words.proofs.same_long.Statement.{statement}
 use Rattle.words.proofs.same_long.Tie as tie
 
-abbrev invariant-loop : tie.invariant-loop
+abbrev invariant-loop : tie.invariant-loop-i
 invariant-loop w s n last i₀ i = (take i s ≡ take i w) × (i ≤ last + 8) × (last + 8 ≡ length w) × (length w ≤ length s)
 
-abbrev decreases-loop : tie.decreases-loop
+abbrev decreases-loop : tie.decreases-loop-i
 decreases-loop w s n last i₀ i = last - i
 
 pub same_long_spec : {M : Type 1} → statement M
@@ -26,7 +26,7 @@ same_long_spec =
     (λ c κs. search rules)
     (λ c. search rules)
     (λ c. search rules)
-    (λ c. (further c.before.before.before.before.before.before.args.w.now c.before.before.before.before.before.before.args.s.now c.before.before.before.loop.i c.before.before.before.loop.i 8 c.before.before.before.loop.invariant.0 (c.before.same8.ensures.holds c.if1.true) (omega arith), omega arith, omega arith, c.before.before.before.loop.invariant.3))
-    (λ c. apart c.before.before.before.before.before.before.args.w.now c.before.before.before.before.before.before.args.s.now c.before.before.before.loop.i 8 (omega arith) (c.before.same8.ensures.fails c.if1.false))
+    (λ c. (further c.before.before.before.before.before.before.args.w.now c.before.before.before.before.before.before.args.s.now c.before.before.before.loop-i.i c.before.before.before.loop-i.i 8 c.before.before.before.loop-i.invariant.0 (c.before.same8.ensures.holds c.if-same8.true) (omega arith), omega arith, omega arith, c.before.before.before.loop-i.invariant.3))
+    (λ c. apart c.before.before.before.before.before.before.args.w.now c.before.before.before.before.before.before.args.s.now c.before.before.before.loop-i.i 8 (omega arith) (c.before.same8.ensures.fails c.if-same8.false))
     (λ c κs. search rules)
-    (λ c. last_on c.before.before.before.before.before.args.w.now c.before.before.before.before.before.args.s.now c.before.before.loop.i (length c.before.before.before.before.before.args.w.now - 8) 8 _ c.before.before.loop.invariant.0 (omega arith) (omega arith) c.same82.ensures))
+    (λ c. last_on c.before.before.before.before.before.args.w.now c.before.before.before.before.before.args.s.now c.before.before.loop-i.i (length c.before.before.before.before.before.args.w.now - 8) 8 _ c.before.before.loop-i.invariant.0 (omega arith) (omega arith) c.same8-2.ensures))

@@ -14,4 +14,4 @@ get2_spec =
     (λ c.
     let s = c.before.before.before.before.before in
     let e = two_at s.args.s.now s.args.at s.requires in
-    (omega (arith, e, c.before.before.wide.ensures.0, c.wide2.ensures.0), omega (arith, c.before.before.wide.ensures.1, c.wide2.ensures.1))))
+    (omega (arith, e, c.before.before.wide.ensures.0, c.wide-2.ensures.0), omega (arith, c.before.before.wide.ensures.1, c.wide-2.ensures.1))))

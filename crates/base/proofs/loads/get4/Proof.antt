@@ -14,4 +14,4 @@ get4_spec =
     (λ c.
     let s = c.before.before.before in
     let e = four_at s.args.s.now s.args.at s.requires in
-    (omega (arith, e, c.before.get2.ensures.0, c.get22.ensures.0), omega (arith, c.before.get2.ensures.1, c.get22.ensures.1))))
+    (omega (arith, e, c.before.get2.ensures.0, c.get2-2.ensures.0), omega (arith, c.before.get2.ensures.1, c.get2-2.ensures.1))))

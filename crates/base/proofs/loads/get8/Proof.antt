@@ -14,4 +14,4 @@ get8_spec =
     (λ c.
     let s = c.before.before.before in
     let e = eight_at s.args.s.now s.args.at s.requires in
-    omega (arith, e, c.before.get4.ensures.0, c.get42.ensures.0)))
+    omega (arith, e, c.before.get4.ensures.0, c.get4-2.ensures.0)))

@@ -5,15 +5,15 @@ use Rattle.figures.proofs.Laws.Money.{hundredths_low, hundredths_high}
 use Rattle.figures.proofs.money.is_hundredths.Statement.{statement}
 use Rattle.figures.proofs.money.is_hundredths.Tie as tie
 
-returns : tie.Need-returns
+returns : tie.Need-returns-then-s-eq48
 returns c =
     let b = c.before.before.before.before.before.before in
-    sym (hundredths_low b.args.s.now b.requires (sym c.before.before.before.before.all_digits.ensures ∙ c.before.before.before.if1.true) c.before.if2.true)
+    sym (hundredths_low b.args.s.now b.requires (sym c.before.before.before.before.all_digits.ensures ∙ c.before.before.before.if-all_digits.true) c.before.if-s-eq48.true)
 
-returns-2 : tie.Need-returns-2
+returns-2 : tie.Need-returns-else-s-eq48
 returns-2 c =
     let b = c.before.before.before.before.before in
-    sym (hundredths_high b.args.s.now b.requires (sym c.before.before.before.all_digits.ensures ∙ c.before.before.if1.true) c.if2.false)
+    sym (hundredths_high b.args.s.now b.requires (sym c.before.before.before.all_digits.ensures ∙ c.before.before.if-all_digits.true) c.if-s-eq48.false)
 
 pub is_hundredths_spec : {M : Type 1} → statement M
 is_hundredths_spec =

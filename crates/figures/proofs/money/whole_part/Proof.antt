@@ -6,17 +6,17 @@ use Rattle.figures.proofs.Laws.Money.{pointed_size}
 use Rattle.figures.proofs.money.whole_part.Statement.{statement}
 use Rattle.figures.proofs.money.whole_part.Tie as tie
 
-sub-e : tie.Need-overflow-sub-e
-sub-e c = pointed_size c.before.before.before.args.s.now (sym c.before.is_pointed.ensures ∙ c.if1.true)
+sub-e : tie.Need-overflow_sub-e
+sub-e c = pointed_size c.before.before.before.args.s.now (sym c.before.is_pointed.ensures ∙ c.if-is_pointed.true)
 
-returns : tie.Need-returns
+returns : tie.Need-returns-then-is_pointed
 returns c =
-    let p : pointed c.before.before.before.before.args.s.now ≡ true = sym c.before.before.is_pointed.ensures ∙ c.before.if1.true in
+    let p : pointed c.before.before.before.before.args.s.now ≡ true = sym c.before.before.is_pointed.ensures ∙ c.before.if-is_pointed.true in
     rw p
 
-returns-2 : tie.Need-returns-2
+returns-2 : tie.Need-returns-else-is_pointed
 returns-2 c =
-    let p : pointed c.before.before.before.args.s.now ≡ false = sym c.before.is_pointed.ensures ∙ c.if1.false in
+    let p : pointed c.before.before.before.args.s.now ≡ false = sym c.before.is_pointed.ensures ∙ c.if-is_pointed.false in
     rw p
 
 pub whole_part_spec : {M : Type 1} → statement M

@@ -6,17 +6,17 @@ use Rattle.figures.proofs.refusals.judge_digit_ordinal.Statement.{statement}
 use Rattle.figures.proofs.refusals.judge_digit_ordinal.Tie as tie
 
 limited-requires : tie.Need-limited-requires
-limited-requires c κs = (λ e. sym c.before.before.is_plain.ensures ∙ c.before.if1.true, refl)
+limited-requires c κs = (λ e. sym c.before.before.is_plain.ensures ∙ c.before.if-is_plain.true, refl)
 
-returns : tie.Need-returns
+returns : tie.Need-returns-then-is_plain
 returns c =
     let s = c.before.before.before.before.before.args.s.now in
-    c.limited.ensures ∙ judge_plain s _ (sym c.before.before.before.is_plain.ensures ∙ c.before.before.if1.true)
+    c.limited.ensures ∙ judge_plain s _ (sym c.before.before.before.is_plain.ensures ∙ c.before.before.if-is_plain.true)
 
-returns-2 : tie.Need-returns-2
+returns-2 : tie.Need-returns
 returns-2 c =
     let s = c.before.before.before.before.before.args.s.now in
-    c.decide.ensures ∙ rw c.before.is_well_formed.ensures (judge_other s _ (sym c.before.before.before.is_plain.ensures ∙ c.before.before.if1.false))
+    c.decide.ensures ∙ rw c.before.is_well_formed.ensures (judge_other s _ (sym c.before.before.before.is_plain.ensures ∙ c.before.before.if-is_plain.false))
 
 pub judge_digit_ordinal_spec : {M : Type 1} → statement M
 judge_digit_ordinal_spec =

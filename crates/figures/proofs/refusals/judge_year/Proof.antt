@@ -6,27 +6,27 @@ use Rattle.figures.proofs.Laws.Sign.{formed_unsigned}
 use Rattle.figures.proofs.refusals.judge_year.Statement.{statement}
 use Rattle.figures.proofs.refusals.judge_year.Tie as tie
 
-limited-requires : tie.Need-limited-requires
+limited-requires : tie.Need-is_negative-requires
 limited-requires c κs =
     let b = c.before.before.before in
-    (λ e. ap plain b.after_sign.ensures ∙ formed_unsigned b.before.before.before.args.s.now (sym b.before.is_well_formed.ensures ∙ e), refl)
+    (λ e. ap plain b.after_sign-w.ensures ∙ formed_unsigned b.before.before.before.args.s.now (sym b.before.is_well_formed-formed.ensures ∙ e), refl)
 
 limited-requires-2 : tie.Need-limited-requires-2
 limited-requires-2 c κs =
     let b = c.before.before.before in
-    (λ e. ap plain b.after_sign.ensures ∙ formed_unsigned b.before.before.before.args.s.now (sym b.before.is_well_formed.ensures ∙ e), refl)
+    (λ e. ap plain b.after_sign-w.ensures ∙ formed_unsigned b.before.before.before.args.s.now (sym b.before.is_well_formed-formed.ensures ∙ e), refl)
 
-returns : tie.Need-returns
+returns : tie.Need-limited-requires
 returns c =
     let b = c.before.before.before.before in
-    let n : negative b.before.before.before.args.s.now ≡ true = sym c.before.before.before.is_negative.ensures ∙ c.before.before.if1.true in
-    c.limited.ensures ∙ rw (b.after_sign.ensures, b.before.is_well_formed.ensures, n)
+    let n : negative b.before.before.before.args.s.now ≡ true = sym c.before.before.before.is_negative.ensures ∙ c.before.before.if-is_negative.true in
+    c.limited.ensures ∙ rw (b.after_sign-w.ensures, b.before.is_well_formed-formed.ensures, n)
 
-returns-2 : tie.Need-returns-2
+returns-2 : tie.Need-returns
 returns-2 c =
     let b = c.before.before.before.before in
-    let n : negative b.before.before.before.args.s.now ≡ false = sym c.before.before.before.is_negative.ensures ∙ c.before.before.if1.false in
-    c.limited2.ensures ∙ rw (b.after_sign.ensures, b.before.is_well_formed.ensures, n)
+    let n : negative b.before.before.before.args.s.now ≡ false = sym c.before.before.before.is_negative.ensures ∙ c.before.before.if-is_negative.false in
+    c.limited-2.ensures ∙ rw (b.after_sign-w.ensures, b.before.is_well_formed-formed.ensures, n)
 
 pub judge_year_spec : {M : Type 1} → statement M
 judge_year_spec =

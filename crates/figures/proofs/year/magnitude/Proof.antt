@@ -9,9 +9,9 @@ pub magnitude_spec : {M : Type 1} → statement M
 magnitude_spec =
     tie.close
     (tie.spec
-    (λ c. lowest c.before.before.args.y c.before.before.ranges.y c.before.if1.true c.if2.true)
-    (λ c. opposite_fits c.before.before.args.y c.before.before.ranges.y c.before.if1.true c.if2.false)
-    (λ c. opposite_cast c.before.before.args.y c.before.before.ranges.y c.before.if1.true c.if2.false)
-    (λ c. opposite_is c.before.before.args.y c.before.before.ranges.y c.before.if1.true c.if2.false)
-    (λ c. same_cast c.before.args.y c.before.ranges.y c.if1.false)
+    (λ c. lowest c.before.before.args.y c.before.before.ranges.y c.before.if-y-lt0.true c.if-y-eqminus9223372036854775808.true)
+    (λ c. opposite_fits c.before.before.args.y c.before.before.ranges.y c.before.if-y-lt0.true c.if-y-eqminus9223372036854775808.false)
+    (λ c. opposite_cast c.before.before.args.y c.before.before.ranges.y c.before.if-y-lt0.true c.if-y-eqminus9223372036854775808.false)
+    (λ c. opposite_is c.before.before.args.y c.before.before.ranges.y c.before.if-y-lt0.true c.if-y-eqminus9223372036854775808.false)
+    (λ c. same_cast c.before.args.y c.before.ranges.y c.if-y-lt0.false)
     (λ c. search rules))

@@ -8,7 +8,7 @@ use Rattle.figures.proofs.Laws.Year.{small_fits, small_reads, minus_fits, minus_
 use Rattle.figures.proofs.year.year_of.Statement.{statement}
 use Rattle.figures.proofs.year.year_of.Tie as tie
 
-value-of-requires : tie.Need-value-of-requires
+value-of-requires : tie.Need-value_of-v-requires
 value-of-requires c κs =
     let s = c.before.before in (
       ap digits c.after_sign.ensures ∙ plain_digits (unsigned s.args.s.now) (formed_unsigned s.args.s.now s.requires.0),
@@ -22,19 +22,19 @@ means c = c.value_of_lem.ensures ∙ ap value c.before.after_sign.ensures
 -- after a '-'
 module _ (c : tie.Then1) where
   minus : negative c.before.before.before.before.before.args.s.now ≡ true
-  minus = sym c.before.is_negative.ensures ∙ c.if1.true
+  minus = sym c.before.is_negative.ensures ∙ c.if-is_negative.true
 
 -- and above the lowest year
 small : (c : tie.Else2) → c.before.before.before.value_of_lem.result < 2 ^ 63
 small c =
     let v = c.before.before.before in
     let s = v.before.before.before in
-    limit_minus (negative s.args.s.now) v.value_of_lem.result (minus c.before) (rw (means v) s.requires.1) c.if2.false
+    limit_minus (negative s.args.s.now) v.value_of_lem.result (minus c.before) (rw (means v) s.requires.1) c.if-v.false
 
 -- with no '-'
 module _ (c : tie.Else1) where
   plain : negative c.before.before.before.before.before.args.s.now ≡ false
-  plain = sym c.before.is_negative.ensures ∙ c.if1.false
+  plain = sym c.before.is_negative.ensures ∙ c.if-is_negative.false
 
   small_plain : c.before.before.value_of_lem.result < 2 ^ 63
   small_plain =
@@ -42,19 +42,19 @@ module _ (c : tie.Else1) where
       let s = v.before.before.before in
       limit_plain (negative s.args.s.now) v.value_of_lem.result plain (rw (means v) s.requires.1)
 
-returns : tie.Need-returns
+returns : tie.Need-returns-then-v
 returns c =
     let v = c.before.before.before in
-    sym (year_minus v.before.before.before.args.s.now (minus c.before) ∙ ap (λ (n : ℕ). neg_ℤ (pos n)) (sym (means v) ∙ c.if2.true))
+    sym (year_minus v.before.before.before.args.s.now (minus c.before) ∙ ap (λ (n : ℕ). neg_ℤ (pos n)) (sym (means v) ∙ c.if-v.true))
 
-returns-2 : tie.Need-returns-2
+returns-2 : tie.Need-returns-else-v
 returns-2 c =
     let v = c.before.before.before in
     minus_reads v.value_of_lem.result (small c) ∙
     ap (λ (n : ℕ). neg_ℤ (pos n)) (means v) ∙
     sym (year_minus v.before.before.before.args.s.now (minus c.before))
 
-returns-3 : tie.Need-returns-3
+returns-3 : tie.Need-returns-else-is_negative
 returns-3 c =
     let v = c.before.before in
     small_reads v.value_of_lem.result (small_plain c) ∙ ap (λ (n : ℕ). pos n) (means v) ∙ sym (year_plain v.before.before.before.args.s.now (plain c))

@@ -15,6 +15,6 @@ money_size_spec =
     (tie.spec
     (λ c κs. search rules)
     (λ c κs. search rules)
-    (λ c. omega (arith, c.text_size2.ensures, text_small (total c.before.before.before.args.g.now)))
-    (λ c. let a = c.before.before.before.args in c.text_size.ensures ∙ sym (size_none (total a.g.now) a.h c.before.if1.true))
-    (λ c. let a = c.before.before.before.args in omega (arith, c.text_size2.ensures, size_some (total a.g.now) a.h c.before.if1.false)))
+    (λ c. omega (arith, c.text_size-else-h-eq0.ensures, text_small (total c.before.before.before.args.g.now)))
+    (λ c. let a = c.before.before.before.args in c.text_size.ensures ∙ sym (size_none (total a.g.now) a.h c.before.if-h-eq0.true))
+    (λ c. let a = c.before.before.before.args in omega (arith, c.text_size-else-h-eq0.ensures, size_some (total a.g.now) a.h c.before.if-h-eq0.false)))

@@ -9,17 +9,17 @@ use Rattle.figures.proofs.Laws.Buffer.{answer_yes, answer_no}
 use Rattle.numerals.proofs.money.put_money_text.Statement.{statement}
 use Rattle.numerals.proofs.money.put_money_text.Tie as tie
 
-returns : tie.Need-returns
+returns : tie.Need-returns-then-out-w
 returns c =
     let b = c.before in
     let a = b.before.before.before.args in
-    answer_no _ a.out.now a.out.now (money_decimal (total a.g.now) a.h) b.money_size.ensures refl (omega arith) refl
+    answer_no _ a.out-1.now a.out-1.now (money_decimal (total a.g.now) a.h) b.money_size-w.ensures refl (omega arith) refl
 
-returns-2 : tie.Need-returns-2
+returns-2 : tie.Need-returns
 returns-2 c =
     let b = c.before.before.before.before.before in
     let a = b.before.before.before.args in
-    answer_yes _ a.out.now _ (money_decimal (total a.g.now) a.h) b.money_size.ensures refl (omega arith) c.before.before.put_money.ensures
+    answer_yes _ a.out-1.now _ (money_decimal (total a.g.now) a.h) b.money_size-w.ensures refl (omega arith) c.before.before.put_money.ensures
 
 pub put_money_text_spec : {M : Type 1} → statement M
 put_money_text_spec =

@@ -14,37 +14,37 @@ use Rattle.tally.proofs.Laid.{low_length, low_next}
 use Rattle.tally.proofs.stores.put.Statement.{statement}
 use Rattle.tally.proofs.stores.put.Tie as tie
 
-abbrev invariant-loop : tie.invariant-loop
+abbrev invariant-loop : tie.invariant-loop-i
 invariant-loop n k out₀ rest₀ i₀ out rest i =
     (length out ≡ length out₀) × (i ≤ k) × (out ≡ sofar out₀ (low_bytes k n) i) × (drop i (low_bytes k n) ≡ low_bytes (k - i) rest)
 
-abbrev decreases-loop : tie.decreases-loop
+abbrev decreases-loop : tie.decreases-loop-i
 decreases-loop n k out₀ rest₀ i₀ out rest i = k - i
 
-loop-holds : tie.Need-loop-init invariant-loop decreases-loop
+loop-holds : tie.Need-loop-i-init invariant-loop decreases-loop
 loop-holds c = (refl, omega arith, refl, rw (sub-zero c.args.k) refl)
 
-loop-again : tie.Need-loop-preserved invariant-loop decreases-loop
+loop-again : tie.Need-loop-i-preserved invariant-loop decreases-loop
 loop-again c =
     let a = c.before.before.args in
-    let b = c.before.loop in
+    let b = c.before.loop-i in
     let t : List ℕ = low_bytes a.k a.n in
-    let m : a.k - b.i ≡ suc (a.k - (b.i + 1)) = omega (arith, c.loop-test.true) in
+    let m : a.k - b.i ≡ suc (a.k - (b.i + 1)) = omega (arith, c.loop-i-test.true) in
     let e = low_next t b.i (a.k - (b.i + 1)) b.rest (b.invariant.3 ∙ ap (λ (j : ℕ). low_bytes j b.rest) m) in
     let l : length t ≡ a.k = low_length a.k a.n in (
       simp length-set b.invariant.0,
-      omega (arith, c.loop-test.true),
+      omega (arith, c.loop-i-test.true),
       ap (λ (x : List ℕ). set x b.i (b.rest % 256)) b.invariant.2 ∙ ap (set (sofar a.out.now t b.i) b.i) (sym e.0) ∙
-          sofar_turn a.out.now t b.i (omega (arith, c.loop-test.true)) (omega (arith, c.before.before.requires)),
+          sofar_turn a.out.now t b.i (omega (arith, c.loop-i-test.true)) (omega (arith, c.before.before.requires)),
       e.1,
     )
 
 returns : tie.Need-returns invariant-loop decreases-loop
 returns c =
     let a = c.before.before.args in
-    let b = c.before.loop in
+    let b = c.before.loop-i in
     let t : List ℕ = low_bytes a.k a.n in
-    let i : b.i ≡ length t = omega (arith, b.invariant.1, c.loop-test.false, low_length a.k a.n) in
+    let i : b.i ≡ length t = omega (arith, b.invariant.1, c.loop-i-test.false, low_length a.k a.n) in
     b.invariant.2 ∙ ap (sofar a.out.now t) i ∙ ap (λ (l : List ℕ). l ++ drop (length t) a.out.now) (take-length t)
 
 pub put_spec : {M : Type 1} → statement M

@@ -17,13 +17,13 @@ use Rattle.tally_calls.proofs.amounts.amount_of.Tie as tie
 whole_is : (c : tie.After-after-sign) → c.after_sign.result.now ≡ unsigned (whole_text c.before.before.before.args.text.now)
 whole_is c = c.after_sign.ensures ∙ ap unsigned c.before.whole_part.ensures
 
-value-of-requires : tie.Need-value-of-requires
+value-of-requires : tie.Need-value_of-whole-requires
 value-of-requires c κs =
     let s = c.before.before.before in
     let t = s.args.text.now in
     (plain_digits c.after_sign.result.now (ap plain (whole_is c) ∙ plain_whole t s.requires), rw (whole_is c) (omega (arith, (admits t s.requires).within)))
 
-value-of-requires-2 : tie.Need-value-of-requires-2
+value-of-requires-2 : tie.Need-value_of-hundredths-requires
 value-of-requires-2 c κs =
     let s = c.before.before.before.before.before in
     let t = s.args.text.now in
@@ -31,10 +31,10 @@ value-of-requires-2 c κs =
     (ap digits e ∙ hundredths_digits t s.requires, rw e (lt_trans (hundredths_small t s.requires) (lit< tt)))
 
 -- the hundredths are the text's, and below 100
-part_is : (c : tie.After-value-of2) → c.value_of2.result ≡ hundredths_of c.before.before.before.before.before.before.args.text.now
-part_is c = c.value_of2.ensures ∙ ap value c.before.hundredths_part.ensures
+part_is : (c : tie.After-value-of2) → c.value_of-hundredths.result ≡ hundredths_of c.before.before.before.before.before.before.args.text.now
+part_is c = c.value_of-hundredths.ensures ∙ ap value c.before.hundredths_part.ensures
 
-small : (c : tie.After-value-of2) → c.value_of2.result < 100
+small : (c : tie.After-value-of2) → c.value_of-hundredths.result < 100
 small c = let s = c.before.before.before.before.before.before in rw (part_is c) (hundredths_small s.args.text.now s.requires)
 
 returns : tie.Need-returns

@@ -28,26 +28,26 @@ module _ (c : tie.After-plan) where
   abbrev whole : ℕ
   whole = c.before.before.before.before.before.before.args.whole
 
-  groups-are : c.before.before.before.groups_from.new.1.0 ≡ groups_of 22 whole
-  groups-are = c.before.before.before.groups_from.ensures.0
+  groups-are : c.before.before.before.groups_from-n.new.1.0 ≡ groups_of 22 whole
+  groups-are = c.before.before.before.groups_from-n.ensures.0
 
   bits : whole < 2 ^ 64
   bits = omega arith
 
-  whole_is : total c.before.before.before.groups_from.new.1.0 ≡ whole
+  whole_is : total c.before.before.before.groups_from-n.new.1.0 ≡ whole
   whole_is = ap total groups-are ∙ total_groups 22 whole (lt_trans bits (lit< tt))
 
-plan-money-requires : tie.Need-plan-money-requires
+plan-money-requires : tie.Need-plan_money-k-requires
 plan-money-requires c κs =
     let p = c.before.before.before.before.before.before.requires in
-    let t = c.before.before.before.groups_from.ensures.1 in
+    let t = c.before.before.before.groups_from-n.ensures.1 in
     let e = groups-are c in (
       (p.0, p.1, few _ _ (bits c) (rw e at t), t.zeros, p.2, omega arith),
       (rw e (groups_below_lem 22 _), rw e (groups_length 22 _), ap (λ (n : ℕ). eqb n 0) (sym (whole_is c))),
     )
 
 returns : tie.Need-returns
-returns c = heard _ _ _ (rw (whole_is c.before.before.before.before.before.before.before) at c.before.before.before.before.before.before.plan_money.ensures.1) c.before.before.speak.ensures.0
+returns c = heard _ _ _ (rw (whole_is c.before.before.before.before.before.before.before) at c.before.before.before.before.before.before.plan_money-k.ensures.1) c.before.before.speak.ensures.0
 
 pub speak_sum_spec : {M : Type 1} → statement M
 speak_sum_spec =

@@ -18,30 +18,30 @@ abbrev asked : tie.Start → Settings
 asked s = ukrainian_settings s.args.gender s.args.number s.args.case s.args.apostrophe s.args.style
 
 in_ranges : (c : tie.Then1) → within (ukrainian_ranges (asked c.before.before.before.before)) ≡ true
-in_ranges c = sym c.before.is_ukrainian.ensures ∙ c.if1.true
+in_ranges c = sym c.before.is_ukrainian.ensures ∙ c.if-is_ukrainian.true
 
-remove-item-requires : tie.Need-remove-item-requires
+remove-item-requires : tie.Need-remove_item-requires
 remove-item-requires c κs =
     let b = c.before.before.before in
-    let t = b.currency_of.ensures.0 c.before.before.if2.true in
-    (rw c.before.ukrainian.ensures (within_holds (ukrainian_ranges (asked b.before.before.before.before.before)) (in_ranges b.before)), c.before.before.if2.true, t.0, t.1)
+    let t = b.currency_of-currency.ensures.0 c.before.before.if-currency-lt-CURRENCIES.true in
+    (rw c.before.ukrainian-settings.ensures (within_holds (ukrainian_ranges (asked b.before.before.before.before.before)) (in_ranges b.before)), c.before.before.if-currency-lt-CURRENCIES.true, t.0, t.1)
 
-returns : tie.Need-returns
+returns : tie.Need-returns-then-currency-lt-CURRENCIES
 returns c =
     let b = c.before.before.before.before in
-    let t = b.before.before.currency_of.ensures.0 b.before.if2.true in
-    rw t.2 (rw b.ukrainian.ensures at c.before.before.remove_item.ensures)
+    let t = b.before.before.currency_of-currency.ensures.0 b.before.if-currency-lt-CURRENCIES.true in
+    rw t.2 (rw b.ukrainian-settings.ensures at c.before.before.remove_item.ensures)
 
-returns-2 : tie.Need-returns-2
+returns-2 : tie.Need-returns-then-is_ukrainian
 returns-2 c =
     let b = c.before.before in
     let s = b.before.before.before.before.before in
-    decides_refused _ 2 c.unchanged.ensures (λ e. omega arith) _ _ _ (rw (b.currency_of.ensures.1 (λ h. omega (arith, c.before.if2.false))) (removes_nowhere (asked s) (in_ranges b.before) s.args.item))
+    decides_refused _ 2 c.unchanged.ensures (λ e. omega arith) _ _ _ (rw (b.currency_of-currency.ensures.1 (λ h. omega (arith, c.before.if-currency-lt-CURRENCIES.false))) (removes_nowhere (asked s) (in_ranges b.before) s.args.item))
 
-returns-3 : tie.Need-returns-3
+returns-3 : tie.Need-returns
 returns-3 c =
     let s = c.before.before.before.before.before in
-    decides_refused _ 1 c.unchanged2.ensures (λ e. omega arith) _ _ _ (removes_outside (asked s) (sym c.before.before.is_ukrainian.ensures ∙ c.before.if1.false) (tally_in s.args.tally.now) s.args.item)
+    decides_refused _ 1 c.unchanged-2.ensures (λ e. omega arith) _ _ _ (removes_outside (asked s) (sym c.before.before.is_ukrainian.ensures ∙ c.before.if-is_ukrainian.false) (tally_in s.args.tally.now) s.args.item)
 
 pub remove_from_spec : {M : Type 1} → statement M
 remove_from_spec =

@@ -16,19 +16,19 @@ ukrainian-requires : tie.Need-ukrainian-requires
 ukrainian-requires c κs =
     let a = c.before.before.before.before.args in
     let S = ukrainian_settings a.gender a.number a.case a.apostrophe a.style in
-    read_test S (eqb-true (reading_refusal S) 0 (sym c.before.is_read.ensures ∙ c.if1.true))
+    read_test S (eqb-true (reading_refusal S) 0 (sym c.before.is_read.ensures ∙ c.if-is_read.true))
 
-read-requires : tie.Need-read-ordinal-requires
+read-requires : tie.Need-read_ordinal-requires
 read-requires c κs =
     let a = c.before.before.before.before.before.before.args in
     let S = ukrainian_settings a.gender a.number a.case a.apostrophe a.style in
-    rw c.before.ukrainian.ensures (eqb-true (reading_refusal S) 0 (sym c.before.before.before.is_read.ensures ∙ c.before.before.if1.true))
+    rw c.before.ukrainian.ensures (eqb-true (reading_refusal S) 0 (sym c.before.before.before.is_read.ensures ∙ c.before.before.if-is_read.true))
 
-returns-2 : tie.Need-returns-2
+returns-2 : tie.Need-returns-else-is_read
 returns-2 c =
     let a = c.before.before.before.before.before.args in
     let S = ukrainian_settings a.gender a.number a.case a.apostrophe a.style in
-    let e = sym c.before.if1.false ∙ c.before.before.is_read.ensures in
+    let e = sym c.before.if-is_read.false ∙ c.before.before.is_read.ensures in
     refuses_first _ _ _ _ wrong_setting c.refused.ensures (refuses_one S e) (λ z. omega arith)
 
 pub from_ordinal_spec : {M : Type 1} → statement M

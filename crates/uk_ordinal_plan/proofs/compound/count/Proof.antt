@@ -16,11 +16,11 @@ count_spec =
     (tie.spec
     (λ c κs. search rules)
     (λ c. search rules)
-    (λ c. rw c.before.before.before.before.if1.true (rerun 3 c.before.before.count_low.ensures (omega arith) refl))
+    (λ c. rw c.before.before.before.before.if-h-eq0.true (rerun 3 c.before.before.count_low.ensures (omega arith) refl))
     (λ c κs. search rules) (λ c κs. search rules)
-    (λ c κs. let s = c.before.before.before.before.before.before.before.before in (s.requires.0, s.requires.2, s.requires.3, omega (arith, s.requires.4, (c.before.before.before.push.ensures uk_pool).near, c.before.before.before.push.auto.0)))
+    (λ c κs. let s = c.before.before.before.before.before.before.before.before in (s.requires.0, s.requires.2, s.requires.3, omega (arith, s.requires.4, (c.before.before.before.push-k.ensures uk_pool).near, c.before.before.before.push-k.auto.0)))
     (λ c. search rules)
     (λ c.
     let s = c.before.before.before.before.before.before.before.before.before.before.before in
-    rerun 3 (run_more 3 (run_one (c.before.before.before.before.before.before.push.ensures uk_pool) c.before.before.before.before.before.before.before.compound_hundred.ensures) c.before.before.count_low2.ensures (omega arith)) (omega arith)
-    (num_hundred (compound_digits s.args.settings) s.args.h s.args.t s.args.u c.before.before.before.before.before.before.before.before.before.if1.false)))
+    rerun 3 (run_more 3 (run_one (c.before.before.before.before.before.before.push-k.ensures uk_pool) c.before.before.before.before.before.before.before.compound_hundred.ensures) c.before.before.count_low-2.ensures (omega arith)) (omega arith)
+    (num_hundred (compound_digits s.args.settings) s.args.h s.args.t s.args.u c.before.before.before.before.before.before.before.before.before.if-h-eq0.false)))

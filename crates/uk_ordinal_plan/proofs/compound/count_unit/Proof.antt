@@ -15,10 +15,10 @@ unfolding compound_digits
 count_unit_spec =
     tie.close
     (tie.spec
-    (λ c. rerun 1 (run_none _ 1 _ _) (omega arith) (opt_none _ _ c.if1.true))
+    (λ c. rerun 1 (run_none _ 1 _ _) (omega arith) (opt_none _ _ c.if-u-eq0.true))
     (λ c κs. search rules) (λ c κs. search rules)
     (λ c. search rules)
-    (λ c. rw c.before.before.before.before.before.if2.true (run_one (c.before.before.push.ensures uk_pool) c.before.before.before.one_base.ensures))
+    (λ c. rw c.before.before.before.before.before.if-u-eq1.true (run_one (c.before.before.push.ensures uk_pool) c.before.before.before.one_base.ensures))
     (λ c κs. search rules) (λ c κs. search rules) (λ c κs. search rules)
     (λ c. search rules)
-    (λ c. rerun 1 (run_one (c.before.before.push2.ensures uk_pool) (rw c.before.before.before.before.in_genitive.ensures.0 at c.before.before.before.unit.ensures)) (omega arith) (unit_more c.before.before.before.before.before.before.before.before.before.args.settings c.before.before.before.before.before.before.before.before.before.args.u c.before.before.before.before.before.before.before.if1.false c.before.before.before.before.before.before.if2.false)))
+    (λ c. rerun 1 (run_one (c.before.before.push-2.ensures uk_pool) (rw c.before.before.before.before.in_genitive.ensures.0 at c.before.before.before.unit.ensures)) (omega arith) (unit_more c.before.before.before.before.before.before.before.before.before.args.settings c.before.before.before.before.before.before.before.before.before.args.u c.before.before.before.before.before.before.before.if-u-eq0.false c.before.before.before.before.before.before.if-u-eq1.false)))

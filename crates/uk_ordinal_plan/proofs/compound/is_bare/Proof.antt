@@ -5,4 +5,4 @@ use Rattle.uk_ordinal_plan.proofs.compound.is_bare.Statement.{statement}
 use Rattle.uk_ordinal_plan.proofs.compound.is_bare.Tie as tie
 
 pub is_bare_spec : {M : Type 1} → statement M
-is_bare_spec = tie.close (tie.spec (λ c. rw c.if1.true refl) (λ c. rw c.if1.false refl))
+is_bare_spec = tie.close (tie.spec (λ c. rw c.if-lone.true refl) (λ c. rw c.if-lone.false refl))

@@ -26,9 +26,9 @@ scale_word_spec =
     (λ c rest alone.
     let a = c.before.before.before.before.before.before.before.args in
     respeak 6 (run_word c.before.before.scale.ensures (joined_some [] _ _)) (omega arith)
-    (ap (λ w. w ∷ []) (bare_word a.settings (part uk_pool a.ending) rest a.order a.g (ap (λ (b : Bool). b && eqb a.g 1) (sym alone) ∙ sym c.before.before.before.before.before.is_bare.ensures ∙ c.before.before.before.before.if1.true))))
+    (ap (λ w. w ∷ []) (bare_word a.settings (part uk_pool a.ending) rest a.order a.g (ap (λ (b : Bool). b && eqb a.g 1) (sym alone) ∙ sym c.before.before.before.before.before.is_bare.ensures ∙ c.before.before.before.before.if-is_bare.true))))
     (λ c κs. let s = c.before.before.before.before in (s.requires.0, omega arith, omega arith, omega arith, omega (arith, s.requires.5)))
-    (λ c κs. let s = c.before.before.before.before.before.before.before.before in (s.requires.1, s.requires.2, omega (arith, s.requires.5, c.before.before.before.count.ensures.said.added.near, c.before.before.before.count.auto.1.1.1.1.0)))
+    (λ c κs. let s = c.before.before.before.before.before.before.before.before in (s.requires.1, s.requires.2, omega (arith, s.requires.5, c.before.before.before.count-k.ensures.said.added.near, c.before.before.before.count-k.auto.1.1.1.1.0)))
     (λ c. search rules)
     (λ c rest alone.
     let s = c.before.before.before.before.before.before.before.before.before.before.before in
@@ -36,6 +36,6 @@ scale_word_spec =
     let g = a.g in
     let e : 100 * (g / 100 % 10) + 10 * (g / 10 % 10) + g % 10 ≡ g = omega (arith, s.requires.4) in
     respeak 6
-    (run_word (run_then 6 c.before.before.before.before.before.before.count.ensures c.before.before.scale2.ensures (omega arith) (num_some (compound_digits a.settings) (g / 100 % 10) (g / 10 % 10) (g % 10) (omega (arith, s.requires.3))))
+    (run_word (run_then 6 c.before.before.before.before.before.before.count-k.ensures c.before.before.scale-2.ensures (omega arith) (num_some (compound_digits a.settings) (g / 100 % 10) (g / 10 % 10) (g % 10) (omega (arith, s.requires.3))))
     (joined_some (num_words (compound_digits a.settings) (g / 100 % 10) (g / 10 % 10) (g % 10)) _ _)) (omega arith)
-    (ap (λ w. w ∷ []) (counted_word a.settings (part uk_pool a.ending) rest a.order g (ap (λ (b : Bool). b && eqb g 1) (sym alone) ∙ sym c.before.before.before.before.before.before.before.before.before.is_bare.ensures ∙ c.before.before.before.before.before.before.before.before.if1.false)))))
+    (ap (λ w. w ∷ []) (counted_word a.settings (part uk_pool a.ending) rest a.order g (ap (λ (b : Bool). b && eqb g 1) (sym alone) ∙ sym c.before.before.before.before.before.before.before.before.before.is_bare.ensures ∙ c.before.before.before.before.before.before.before.before.if-is_bare.false)))))

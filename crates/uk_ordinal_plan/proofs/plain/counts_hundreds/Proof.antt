@@ -10,5 +10,5 @@ counts_hundreds_spec =
     tie.close
     (tie.spec
     (λ c κs. search rules)
-    (λ c. rw (sym c.before.is_school.ensures ∙ c.if1.true) refl)
-    (λ c. rw (sym c.before.is_school.ensures ∙ c.if1.false) refl))
+    (λ c. rw (sym c.before.is_school.ensures ∙ c.if-is_school.true) refl)
+    (λ c. rw (sym c.before.is_school.ensures ∙ c.if-is_school.false) refl))

@@ -18,9 +18,9 @@ plain_words_spec =
     (λ c. search rules)
     (λ c.
     let a = c.before.before.before.before.before.before.args in
-    respeak 4 c.before.before.round_word_lem.ensures (omega arith) (plain_hundred a.settings (part uk_pool a.ending) a.g c.before.before.before.before.if1.true))
+    respeak 4 c.before.before.round_word_lem.ensures (omega arith) (plain_hundred a.settings (part uk_pool a.ending) a.g c.before.before.before.before.if-g-eq0.true))
     (λ c κs. search rules) (λ c κs. search rules) (λ c κs. search rules)
     (λ c. search rules)
     (λ c.
     let a = c.before.before.before.before.before.before.before.before.before.before.before.args in
-    respeak 4 (told (tell 4 (rw c.before.before.before.before.before.before.before.before.in_nominative.ensures.0 at c.before.before.before.before.before.before.hundred_word.ensures) c.before.before.tail_words.ensures (omega arith))) (omega arith) (plain_more a.settings (part uk_pool a.ending) a.g c.before.before.before.before.before.before.before.before.before.if1.false)))
+    respeak 4 (told (tell 4 (rw c.before.before.before.before.before.before.before.before.in_nominative.ensures.0 at c.before.before.before.before.before.before.hundred_word-a.ensures) c.before.before.tail_words.ensures (omega arith))) (omega arith) (plain_more a.settings (part uk_pool a.ending) a.g c.before.before.before.before.before.before.before.before.before.if-g-eq0.false)))

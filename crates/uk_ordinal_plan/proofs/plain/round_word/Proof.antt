@@ -31,23 +31,23 @@ round_word_spec =
     (λ c κs. search rules) (λ c κs. search rules)
     (λ c κs.
     let a = c.before.before.before.before.args in
-    let some : 0 < a.h = omega (arith, ltb-true 1 a.h (both_hold (school a.settings) (ltb 1 a.h) (sym c.before.before.counts_hundreds.ensures ∙ c.before.if1.true)).1) in
+    let some : 0 < a.h = omega (arith, ltb-true 1 a.h (both_hold (school a.settings) (ltb 1 a.h) (sym c.before.before.counts_hundreds.ensures ∙ c.before.if-counts_hundreds.true)).1) in
     search rules)
     (λ c κs. search rules) (λ c κs. search rules)
-    (λ c κs. omega (arith, c.before.before.before.before.before.before.before.before.before.before.before.requires.2, (c.before.before.before.before.push.ensures uk_pool).near, c.before.before.before.before.push.auto.0))
-    (λ c κs. omega (arith, c.before.before.before.before.before.before.before.before.before.before.before.before.before.before.before.requires.2, (c.before.before.before.before.before.before.before.before.push.ensures uk_pool).near, c.before.before.before.before.before.before.before.before.push.auto.0, (c.before.before.before.push2.ensures uk_pool).near, c.before.before.before.push2.auto.0))
+    (λ c κs. omega (arith, c.before.before.before.before.before.before.before.before.before.before.before.requires.2, (c.before.before.before.before.push-a.ensures uk_pool).near, c.before.before.before.before.push-a.auto.0))
+    (λ c κs. omega (arith, c.before.before.before.before.before.before.before.before.before.before.before.before.before.before.before.requires.2, (c.before.before.before.before.before.before.before.before.push-a.ensures uk_pool).near, c.before.before.before.before.before.before.before.before.push-a.auto.0, (c.before.before.before.push-b.ensures uk_pool).near, c.before.before.before.push-b.auto.0))
     (λ c. search rules)
     (λ c.
     let a = c.before.before.before.before.before.before.before.before.before.before.before.before.before.before.before.before.before.before.args in
     respeak 3
     (run_word
-    (run_more 3 (run_more 2 (run_one {w = unit_form (in_genitive a.settings) a.h} (c.before.before.before.before.before.before.before.before.before.before.before.push.ensures uk_pool) (search (under (λ S. unit_form S a.h), c.before.before.before.before.before.before.before.before.before.before.before.before.before.before, c.before.before.before.before.before.before.before.before.before.before.before.before.before))) (run_one (c.before.before.before.before.before.before.push2.ensures uk_pool) c.before.before.before.before.before.before.before.hundred_base.ensures) (omega arith)) (run_one (c.before.before.push3.ensures uk_pool) refl) (omega arith))
+    (run_more 3 (run_more 2 (run_one {w = unit_form (in_genitive a.settings) a.h} (c.before.before.before.before.before.before.before.before.before.before.before.push-a.ensures uk_pool) (search (under (λ S. unit_form S a.h), c.before.before.before.before.before.before.before.before.before.before.before.before.before.before, c.before.before.before.before.before.before.before.before.before.before.before.before.before))) (run_one (c.before.before.before.before.before.before.push-b.ensures uk_pool) c.before.before.before.before.before.before.before.hundred_base.ensures) (omega arith)) (run_one (c.before.before.push.ensures uk_pool) refl) (omega arith))
     (joined_some [] _ _)) (omega arith)
-    (ap (λ w. w ∷ []) (counted_hundred a.settings (part uk_pool a.ending) a.h (sym c.before.before.before.before.before.before.before.before.before.before.before.before.before.before.before.before.counts_hundreds.ensures ∙ c.before.before.before.before.before.before.before.before.before.before.before.before.before.before.before.if1.true))))
+    (ap (λ w. w ∷ []) (counted_hundred a.settings (part uk_pool a.ending) a.h (sym c.before.before.before.before.before.before.before.before.before.before.before.before.before.before.before.before.counts_hundreds.ensures ∙ c.before.before.before.before.before.before.before.before.before.before.before.before.before.before.before.if-counts_hundreds.true))))
     (λ c κs. search rules) (λ c κs. search rules)
-    (λ c κs. omega (arith, c.before.before.before.before.before.before.before.before.before.requires.2, (c.before.before.before.push4.ensures uk_pool).near, c.before.before.before.push4.auto.0))
+    (λ c κs. omega (arith, c.before.before.before.before.before.before.before.before.before.requires.2, (c.before.before.before.push-a-2.ensures uk_pool).near, c.before.before.before.push-a-2.auto.0))
     (λ c. search rules)
     (λ c.
     let a = c.before.before.before.before.before.before.before.before.before.before.before.before.args in
-    respeak 3 (told (told_ended (c.before.before.before.before.before.before.push4.ensures uk_pool) (c.before.before.push5.ensures uk_pool) c.before.before.before.before.before.before.before.hundred_base2.ensures refl)) (omega arith)
-    (ap (λ w. w ∷ []) (bare_hundred a.settings (part uk_pool a.ending) a.h (sym c.before.before.before.before.before.before.before.before.before.before.counts_hundreds.ensures ∙ c.before.before.before.before.before.before.before.before.before.if1.false)))))
+    respeak 3 (told (told_ended (c.before.before.before.before.before.before.push-a-2.ensures uk_pool) (c.before.before.push-2.ensures uk_pool) c.before.before.before.before.before.before.before.hundred_base-2.ensures refl)) (omega arith)
+    (ap (λ w. w ∷ []) (bare_hundred a.settings (part uk_pool a.ending) a.h (sym c.before.before.before.before.before.before.before.before.before.before.counts_hundreds.ensures ∙ c.before.before.before.before.before.before.before.before.before.if-counts_hundreds.false)))))

@@ -12,11 +12,11 @@ use Rattle.uk_ordinal_read.proofs.last.compound.Statement.{statement}
 use Rattle.uk_ordinal_read.proofs.last.compound.Tie as tie
 
 -- what stands behind the count
-means : (c : tie.After-meaning) → c.meaning.result ≡ stem_means (uncounted 4 c.before.before.before.before.before.args.stem.now)
+means : (c : tie.After-meaning) → c.meaning-m.result ≡ stem_means (uncounted 4 c.before.before.before.before.before.args.stem.now)
 means c =
     let s = c.before.before.before.before.before.args.stem.now in
-    let n = c.before.before.before.count in
-    c.meaning.ensures ∙ ap meaning_of c.before.first.ensures.0 ∙ ap stem_means (from_is n.result.next s ∙ n.ensures.1.0)
+    let n = c.before.before.before.count-c in
+    c.meaning-m.ensures ∙ ap meaning_of c.before.first-t.ensures.0 ∙ ap stem_means (from_is n.result.next s ∙ n.ensures.1.0)
 
 pub compound_spec : {M : Type 1} → statement M
 compound_spec =
@@ -31,9 +31,9 @@ compound_spec =
     (λ c. search rules)
     (λ c.
     let a = c.before.before.before.before.before.before.before in
-    let n = c.before.before.before.before.before.count in
-    compound_one a.args.stem.now n.result.value c.before.before.meaning.result a.requires n.ensures.0.0 n.ensures.0.1 (means c.before.before) c.if1.true)
+    let n = c.before.before.before.before.before.count-c in
+    compound_one a.args.stem.now n.result.value c.before.before.meaning-m.result a.requires n.ensures.0.0 n.ensures.0.1 (means c.before.before) c.if-c-eq0.true)
     (λ c.
     let a = c.before.before.before.before.before.before.before in
-    let n = c.before.before.before.before.before.count in
-    compound_counted a.args.stem.now n.result.value c.before.before.meaning.result a.requires n.ensures.0.0 n.ensures.0.1 (means c.before.before) c.if1.false))
+    let n = c.before.before.before.before.before.count-c in
+    compound_counted a.args.stem.now n.result.value c.before.before.meaning-m.result a.requires n.ensures.0.0 n.ensures.0.1 (means c.before.before) c.if-c-eq0.false))

@@ -10,7 +10,7 @@ grown_spec =
     tie.close
     (tie.spec
     (λ c. search rules)
-    (λ c. let a = c.before.args in grown_hundreds a.value a.more c.if1.true)
+    (λ c. let a = c.before.args in grown_hundreds a.value a.more c.if-more-eq-HUNDREDS.true)
     (λ c. search rules)
     (λ c. search rules)
-    (λ c. let a = c.before.args in grown_other a.value a.more c.if1.false))
+    (λ c. let a = c.before.args in grown_other a.value a.more c.if-more-eq-HUNDREDS.false))

@@ -17,7 +17,7 @@ use Rattle.uk_ordinal_read.proofs.last.last.Tie as tie
 plain : (c : tie.Joined1) → compound c.before.before.args.stem.now ≡ false
 plain c =
     let s = c.before.before.args.stem.now in
-    ⊎_elim (λ w. ne_eqb (get_or s (length s - 1) 0) 189 w.2.left) (λ w. empty_plain s w.left) c.if1.branch
+    ⊎_elim (λ w. ne_eqb (get_or s (length s - 1) 0) 189 w.2.left) (λ w. empty_plain s w.left) c.if-n-gt0.branch
 
 pub last_spec : {M : Type 1} → statement M
 last_spec =
@@ -25,9 +25,9 @@ last_spec =
     (tie.spec
     (λ c. search rules)
     (λ c. search rules)
-    (λ c κs. let s = c.before.before.before.before.args.stem.now in eq-eqb (get_or s (length s - 1) 0) 189 c.if2.true)
+    (λ c κs. let s = c.before.before.before.before.args.stem.now in eq-eqb (get_or s (length s - 1) 0) 189 c.if-stem-n.true)
     (λ c. search rules)
     (λ c κs. search rules)
     (λ c κs. search rules)
     (λ c.
-    plain_stem c.before.before.before.before.args.stem.now c.meaning.result (plain c.before.before) (c.meaning.ensures ∙ ap meaning_of c.before.first.ensures.0)))
+    plain_stem c.before.before.before.before.args.stem.now c.meaning-m.result (plain c.before.before) (c.meaning-m.ensures ∙ ap meaning_of c.before.first-t.ensures.0)))

@@ -9,7 +9,7 @@ pub seems_early_spec : {M : Type 1} → statement M
 seems_early_spec =
     tie.close
     (tie.spec
-    (λ c. nothing_early c.before.args.s.now c.if1.true)
+    (λ c. nothing_early c.before.args.s.now c.if-n-eq0.true)
     (λ c. search rules)
     (λ c. search rules)
     (λ c. search rules))

@@ -12,22 +12,22 @@ use Rattle.uk_ordinal_read.proofs.year.tail_size.Statement.{statement}
 use Rattle.uk_ordinal_read.proofs.year.tail_size.Tie as tie
 
 -- the noun's length
-noun : (c : tie.After-len) → (c.len.result ≡ length (year_noun c.before.before.args.settings)) × (c.len.result < 40)
+noun : (c : tie.After-len) → (c.len-noun.result ≡ length (year_noun c.before.before.args.settings)) × (c.len-noun.result < 40)
 noun c =
     let w = c.before.year_word in
     let t = year_noun c.before.before.args.settings in
-    (text_length w.result c.len.result t w.ensures c.len.ensures, text_short w.result c.len.result t w.ensures c.len.ensures)
+    (text_length w.result c.len-noun.result t w.ensures c.len-noun.ensures, text_short w.result c.len-noun.result t w.ensures c.len-noun.ensures)
 
 -- those of the two words that early years add
-before-era : (c : tie.After-len2) → (c.len2.result ≡ length (utf8 "до")) × (c.len2.result < 40)
+before-era : (c : tie.After-len2) → (c.len.result ≡ length (utf8 "до")) × (c.len.result < 40)
 before-era c =
     let w = c.before.before_era in
-    (text_length w.result c.len2.result (utf8 "до") w.ensures c.len2.ensures, text_short w.result c.len2.result (utf8 "до") w.ensures c.len2.ensures)
+    (text_length w.result c.len.result (utf8 "до") w.ensures c.len.ensures, text_short w.result c.len.result (utf8 "до") w.ensures c.len.ensures)
 
-our-era : (c : tie.After-len3) → (c.len3.result ≡ length (utf8 "н.е.")) × (c.len3.result < 40)
+our-era : (c : tie.After-len3) → (c.len-then-early.result ≡ length (utf8 "н.е.")) × (c.len-then-early.result < 40)
 our-era c =
     let w = c.before.our_era in
-    (text_length w.result c.len3.result (utf8 "н.е.") w.ensures c.len3.ensures, text_short w.result c.len3.result (utf8 "н.е.") w.ensures c.len3.ensures)
+    (text_length w.result c.len-then-early.result (utf8 "н.е.") w.ensures c.len-then-early.ensures, text_short w.result c.len-then-early.result (utf8 "н.е.") w.ensures c.len-then-early.ensures)
 
 pub tail_size_spec : {M : Type 1} → statement M
 tail_size_spec =
@@ -46,5 +46,5 @@ tail_size_spec =
     (λ c.
     let n = c.before.before.before.before.before in
     let a = c.before.before.before.before.before.before.before.args in
-    early_size a.settings n.len.result (noun n).0 c.before.before.len2.result c.len3.result (before-era c.before.before).0 (our-era c).0 a.early c.before.before.before.before.if1.true)
-    (λ c. let a = c.before.before.before.args in late_size a.settings c.before.len.result (noun c.before).0 a.early c.if1.false))
+    early_size a.settings n.len-noun.result (noun n).0 c.before.before.len.result c.len-then-early.result (before-era c.before.before).0 (our-era c).0 a.early c.before.before.before.before.if-early.true)
+    (λ c. let a = c.before.before.before.args in late_size a.settings c.before.len-noun.result (noun c.before).0 a.early c.if-early.false))

@@ -7,18 +7,18 @@ use Rattle.words.proofs.Counts.{counted_extent}
 use Rattle.words.proofs.extents.spaced_extent.Statement.{statement}
 use Rattle.words.proofs.extents.spaced_extent.Tie as tie
 
-returns : tie.Need-returns
+returns : tie.Need-returns-then-all-before
 returns c =
     let s = c.before.before.before.before in
-    let b = c.before.before.spaces_before in
-    let e = c.before.spaces_before2 in
-    ((λ pool k. counted_extent k _ s.args.start s.args.end b.result e.result s.requires.0 s.requires.1 (b.ensures.0 pool k) (e.ensures.0 pool k) (omega (arith, c.if1.true)) refl), omega arith, refl)
+    let b = c.before.before.spaces_before-before in
+    let e = c.before.spaces_before-all in
+    ((λ pool k. counted_extent k _ s.args.start s.args.end b.result e.result s.requires.0 s.requires.1 (b.ensures.0 pool k) (e.ensures.0 pool k) (omega (arith, c.if-all-before.true)) refl), omega arith, refl)
 
-returns-2 : tie.Need-returns-2
+returns-2 : tie.Need-returns
 returns-2 c =
     let s = c.before.before.before.before in
-    let b = c.before.before.spaces_before in
-    let e = c.before.spaces_before2 in
+    let b = c.before.before.spaces_before-before in
+    let e = c.before.spaces_before-all in
     ((λ pool k. counted_extent k _ s.args.start s.args.end b.result e.result s.requires.0 s.requires.1 (b.ensures.0 pool k) (e.ensures.0 pool k) refl refl), omega (arith, e.ensures.1), refl)
 
 pub spaced_extent_spec : {M : Type 1} → statement M

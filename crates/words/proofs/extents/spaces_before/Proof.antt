@@ -7,16 +7,16 @@ use Rattle.words.proofs.Counts.{none_before, counted_before}
 use Rattle.words.proofs.extents.spaces_before.Statement.{statement}
 use Rattle.words.proofs.extents.spaces_before.Tie as tie
 
-returns : tie.Need-returns
-returns c = ((λ pool k. none_before k _ c.if1.true), omega arith)
+returns : tie.Need-returns-then-at-unspaced
+returns c = ((λ pool k. none_before k _ c.if-at-unspaced.true), omega arith)
 
-cast-result : tie.Need-overflow-cast-result
-cast-result c = omega (arith, c.shared-slice-known.given (c.before.before.args.at - c.before.before.args.unspaced))
+cast-result : tie.Need-overflow_cast-result
+cast-result c = omega (arith, c.shared_slice_known-1.given (c.before.before.args.at - c.before.before.args.unspaced))
 
-returns-2 : tie.Need-returns-2
+returns-2 : tie.Need-returns
 returns-2 c =
     let a = c.before.before.args in
-    ((λ pool k. counted_before k a.at c.before.if1.false c.before.before.requires), omega (arith, c.shared-slice-known.given (a.at - a.unspaced)))
+    ((λ pool k. counted_before k a.at c.before.if-at-unspaced.false c.before.before.requires), omega (arith, c.shared_slice_known-1.given (a.at - a.unspaced)))
 
 pub spaces_before_spec : {M : Type 1} → statement M
 spaces_before_spec = tie.close (tie.spec returns (λ c. search rules) (λ c. search rules) cast-result returns-2)

@@ -19,5 +19,5 @@ put4_spec =
     (λ c.
     let s = c.before.before.before.before.before.before.before.before.before in
     let w = s.args.w in
-    joined s.args.out.now _ _ (low_bytes 2 w) (low_bytes 2 (w / 65536)) s.args.at 2 2 c.before.before.before.before.before.before.put2.ensures c.before.before.put22.ensures refl (omega arith)
+    joined s.args.out.now _ _ (low_bytes 2 w) (low_bytes 2 (w / 65536)) s.args.at 2 2 c.before.before.before.before.before.before.put2.ensures c.before.before.put2-2.ensures refl (omega arith)
     ∙ ap (λ (d : List ℕ). with s.args.at d 4 s.args.out.now) (digits4 w)))

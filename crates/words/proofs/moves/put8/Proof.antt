@@ -19,5 +19,5 @@ put8_spec =
     (λ c.
     let s = c.before.before.before.before.before.before.before.before.before in
     let w = s.args.w in
-    joined s.args.out.now _ _ (low_bytes 4 w) (low_bytes 4 (w / 4294967296)) s.args.at 4 4 c.before.before.before.before.before.before.put4.ensures c.before.before.put42.ensures refl (omega arith)
+    joined s.args.out.now _ _ (low_bytes 4 w) (low_bytes 4 (w / 4294967296)) s.args.at 4 4 c.before.before.before.before.before.before.put4.ensures c.before.before.put4-2.ensures refl (omega arith)
     ∙ ap (λ (d : List ℕ). with s.args.at d 8 s.args.out.now) (digits8 w)))

@@ -13,5 +13,5 @@ same4_spec =
     (λ c κs. search rules) (λ c κs. search rules)
     (λ c.
     let a = c.before.before.before.before.args in
-    told a.w.now a.s.now (λ i. omega (arith, c.before.before.before.shared-slice-known.given i)) (λ i. omega (arith, c.before.before.shared-slice-known2.given i)) a.at 4 _ _
-    c.before.get4.ensures.0 c.get42.ensures.0 c.before.before.before.before.requires.0 c.before.before.before.before.requires.1))
+    told a.w.now a.s.now (λ i. omega (arith, c.before.before.before.shared_slice_known-1.given i)) (λ i. omega (arith, c.before.before.shared_slice_known-2-1.given i)) a.at 4 _ _
+    c.before.get4.ensures.0 c.get4-2.ensures.0 c.before.before.before.before.requires.0 c.before.before.before.before.requires.1))
