@@ -37,16 +37,16 @@ plan-words-requires c κs =
     ((p.1, p.3.zeros, omega (arith, p.2.0, p.3.fits), omega (arith, p.4)), (p.2, c.before.is-2.ensures))
 
 -- the cardinal's plan has a last word
-some : (c : tie.After-plan-words) → 0 < c.plan_words-count.result
+some : (c : tie.After-plan_words-count) → 0 < c.plan_words-count.result
 some c =
     let s = c.before.before.before.before.before.before.before.before in
     let gs = s.args.gs.now in
     some_codes c.plan_words-count.ensures (spaced_some (french_joiner s.args.settings) (cardinal_words (french s.args.settings) false (total gs)) (some_words s.args.settings (total gs) (groups_hold gs s.requires.2)))
 
-within : (c : tie.After-plan-words) → c.plan_words-count.result ≤ length c.plan_words-count.new.1.1.1.1.1.0
+within : (c : tie.After-plan_words-count) → c.plan_words-count.result ≤ length c.plan_words-count.new.1.1.1.1.1.0
 within c = omega (arith, c.plan_words-count.ensures.near, c.plan_words-count.ensures.same, c.before.before.before.before.before.before.before.before.requires.4)
 
-known : (c : tie.After-plan-words) → Known (get_or c.plan_words-count.new.1.1.1.1.1.0 (c.plan_words-count.result - 1) 0 / 256)
+known : (c : tie.After-plan_words-count) → Known (get_or c.plan_words-count.new.1.1.1.1.1.0 (c.plan_words-count.result - 1) 0 / 256)
 known c = last_known c.plan_words-count.ensures (some c) (within c)
 
 returns-2 : tie.Need-returns

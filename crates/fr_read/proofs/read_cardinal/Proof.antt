@@ -11,10 +11,10 @@ use Rattle.fr_read.proofs.read_cardinal.Statement.{statement}
 use Rattle.fr_read.proofs.read_cardinal.Tie as tie
 
 -- the groups are those guessed behind the sign
-groups : (c : tie.After-guess) → c.guess-m.new.1.0 ≡ guessed (behind_minus (meanings c.before.before.before.before.before.args.s.now))
+groups : (c : tie.After-guess-m) → c.guess-m.new.1.0 ≡ guessed (behind_minus (meanings c.before.before.before.before.before.args.s.now))
 groups c = behind c.before.before.before.before.before.args.s.now _ c.before.before.before.sign-k.result c.guess-m.ensures.0 c.before.before.before.sign-k.ensures.1
 
-size : (c : tie.After-guess) → length c.guess-m.new.1.0 ≡ 34
+size : (c : tie.After-guess-m) → length c.guess-m.new.1.0 ≡ 34
 size c = (are_groups _ _ (groups c)).0
 
 returns : tie.Need-returns

@@ -16,7 +16,7 @@ use Rattle.numerals.proofs.put_signed.Statement.{statement}
 use Rattle.numerals.proofs.put_signed.Tie as tie
 
 -- with '-', w is one more than the length of the text
-module _ (c : tie.Then1) where
+module _ (c : tie.Then-minus) where
   minus : c.before.before.before.args.w ≡ suc (length (decimal (total c.before.before.before.args.g.now)))
   minus =
       let s = c.before.before.before in

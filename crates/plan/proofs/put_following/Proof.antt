@@ -21,7 +21,7 @@ abbrev decreases-loop : tie.decreases-loop-i
 decreases-loop pool plan out₀ k₀ i₀ out k i = length plan - i
 
 -- room for the next piece after those written
-room : (c : tie.In-loop invariant-loop decreases-loop)
+room : (c : tie.In-loop-i invariant-loop decreases-loop)
     → c.before.loop-i.k + length (following (piece_of c.before.before.before.before.before.args.pool.now (get_or c.before.before.before.before.before.args.plan.now c.before.loop-i.i 0) ∷ [])) ≤ length c.before.loop-i.out
 room c =
     let at = c.before in

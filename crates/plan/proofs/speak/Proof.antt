@@ -25,7 +25,7 @@ returns-2 c =
     let p = c.before.before.put-length in
     let short = says_short a.pool.now a.plan.now a.n s.requires.0 in
     let left = c.before.before.before.before.before.if-out-n.false in
-    (written a.out-1.now (phrase_of (says a.pool.now a.plan.now a.n)) p.result p.ensures.0 _ (omega (arith, p.ensures.0)) p.ensures.1, omega (arith, p.ensures.0))
+    (written a.out.now (phrase_of (says a.pool.now a.plan.now a.n)) p.result p.ensures.0 _ (omega (arith, p.ensures.0)) p.ensures.1, omega (arith, p.ensures.0))
 
 pub speak_spec : {M : Type 1} → statement M
 speak_spec =

@@ -24,7 +24,7 @@ room c =
     rw l.invariant.3 (num_room a.args.s.now l.j (λ i. omega (arith, c.before.before.before.before.shared_slice_known-1.given i)) (omega (arith, a.requires.1, l.invariant.1)))
 
 -- the bytes from i on, once all are taken
-module _ (c : tie.After-loop invariant-loop decreases-loop) where
+module _ (c : tie.After-loop-j invariant-loop decreases-loop) where
   abbrev start : tie.Start invariant-loop decreases-loop
   start = c.before.before.before
 

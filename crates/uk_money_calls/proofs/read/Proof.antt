@@ -18,7 +18,7 @@ returns : tie.Need-returns-in-Refused
 returns c =
     let a = c.before.before.before.before.before.before.before.args in
     let p = c.before.before.before.read_money-read in
-    seen_none a.settings (currency_at a.currency) c.before.before.before.before.before.before.before.requires.0 a.said.now p.new.1.1.1.0 a.out-1.now a.out-1.now _
+    seen_none a.settings (currency_at a.currency) c.before.before.before.before.before.before.before.requires.0 a.said.now p.new.1.1.1.0 a.out.now a.out.now _
     (subst (λ (x : SeenAmount). ReadMoney a.settings (currency_at a.currency) a.said.now x p.new.1.1.1.0) c.before.enum_told-1.given.1 p.ensures.0)
     (refuses c.refused.ensures)
 
@@ -27,7 +27,7 @@ returns-2 c =
     let a = c.before.before.before.before.before.before.before.before.before.before.before.before.args in
     let p = c.before.before.before.before.before.before.before.before.read_money-read in
     let h = c.before.before.before.before.before.before.seen-1.given in
-    seen_some a.settings (currency_at a.currency) c.before.before.before.before.before.before.before.before.before.before.before.before.requires.0 a.said.now p.new.1.1.1.0 a.out-1.now _ c.before.before.put_money_text.result h.0.0
+    seen_some a.settings (currency_at a.currency) c.before.before.before.before.before.before.before.before.before.before.before.before.requires.0 a.said.now p.new.1.1.1.0 a.out.now _ c.before.before.put_money_text.result h.0.0
     (subst (λ (x : SeenAmount). ReadMoney a.settings (currency_at a.currency) a.said.now x p.new.1.1.1.0) h.1 p.ensures.0)
     c.before.before.put_money_text.ensures
 

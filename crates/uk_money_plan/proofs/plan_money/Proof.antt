@@ -41,7 +41,7 @@ returns-3 c =
     )
 
 -- under the settings that the number holds
-held : (c : tie.After-packed) → Within (ukrainian_ranges (settings_in c.packed-code.result))
+held : (c : tie.After-packed-code) → Within (ukrainian_ranges (settings_in c.packed-code.result))
 held c = rw c.packed-code.ensures c.before.before.requires.0.0
 
 pub plan_money_spec : {M : Type 1} → statement M

@@ -15,13 +15,13 @@ use Rattle.uk_money_read.proofs.read_money.Statement.{statement}
 use Rattle.uk_money_read.proofs.read_money.Tie as tie
 
 -- the groups and the hundredths that were made of the bytes
-made : (c : tie.After-groups) → All (split c.before.before.before.args.s.now) c.groups-span.new.1.1.0 c.groups-span.result.orders
+made : (c : tie.After-groups-span) → All (split c.before.before.before.args.s.now) c.groups-span.new.1.1.0 c.groups-span.result.orders
 made c =
     let a = c.before.before.before in
     let g = c.groups-span.ensures in
     all_read (split a.args.s.now) a.args.out.now c.groups-span.new.1.1.0 c.groups-span.result.orders a.requires.2 g.0.0 g.0.1 g.1.1.0 g.1.1.1
 
-hundredths : (c : tie.After-lowest) → c.lowest-h.result ≡ get_or (sums 22 (behind (left 22 (split c.before.before.before.before.before.before.before.before.before.before.args.s.now)))) 0 0
+hundredths : (c : tie.After-lowest-h) → c.lowest-h.result ≡ get_or (sums 22 (behind (left 22 (split c.before.before.before.before.before.before.before.before.before.before.args.s.now)))) 0 0
 hundredths c =
     let g = c.before.before.before.before.before.before.before.groups-span in
     let n = c.before.before.nouns-m in

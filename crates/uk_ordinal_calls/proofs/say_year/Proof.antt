@@ -18,7 +18,7 @@ use Rattle.uk_ordinal_calls.proofs.say_year.Statement.{statement}
 use Rattle.uk_ordinal_calls.proofs.say_year.Tie as tie
 
 -- the magnitude, and its groups
-module _ (c : tie.After-gs2) where
+module _ (c : tie.After-gs-2-1) where
   magnitude-is : c.before.before.before.magnitude.result ≡ nat_abs c.before.before.before.before.before.args.year
   magnitude-is = c.before.before.before.magnitude.ensures ∙ ap nat_abs (to_z-of_z c.before.before.before.before.before.ranges.year)
 

@@ -17,7 +17,7 @@ use Rattle.uk_ordinal_read.proofs.guess.Statement.{statement}
 use Rattle.uk_ordinal_read.proofs.guess.Tie as tie
 
 -- the groups of the words before the last
-words : (c : tie.After-groups) → All (split (before_last c.before.before.before.before.before.args.s.now)) c.groups-span.new.1.1.0 c.groups-span.result.orders
+words : (c : tie.After-groups-span) → All (split (before_last c.before.before.before.before.before.args.s.now)) c.groups-span.new.1.1.0 c.groups-span.result.orders
 words c =
     let a = c.before.before.before.before.before in
     let b = c.before.before.before-2 in
@@ -33,23 +33,23 @@ stem_is c =
     cut_stem a.settings a.s.now c.stem.result.now l.result c.before.before.len-ending.result l.ensures.0 (c.before.before.len-ending.ensures ∙ ap length c.before.before.before.ending.ensures) c.stem.ensures
 
 -- the groups once the last word's number is added to one of them
-abbrev stored : tie.After-last → List ℕ
+abbrev stored : tie.After-last-w → List ℕ
 stored c = added c.last-w.result.order c.last-w.result.value c.before.before.before.before.before.groups-span.new.1.1.0
 
-stored-length : (c : tie.After-last) → length (stored c) ≡ 22
+stored-length : (c : tie.After-last-w) → length (stored c) ≡ 22
 stored-length c =
     let gs = c.before.before.before.before.before.groups-span.new.1.1.0 in
     let o = c.last-w.result.order in
     length-set gs o ((get_or gs o 0 + c.last-w.result.value) % 1000) ∙ (words c.before.before.before.before.before).size
 
-zeros : (c : tie.After-last) (m : ℕ) → c.before.before.before.before.before.groups-span.result.orders ≤ m → c.last-w.result.order < m → ZeroFrom (stored c) m
+zeros : (c : tie.After-last-w) (m : ℕ) → c.before.before.before.before.before.groups-span.result.orders ≤ m → c.last-w.result.order < m → ZeroFrom (stored c) m
 zeros c m h l =
     let gs = c.before.before.before.before.before.groups-span.new.1.1.0 in
     let o = c.last-w.result.order in
     set_zeros gs o ((get_or gs o 0 + c.last-w.result.value) % 1000) c.before.before.before.before.before.groups-span.result.orders m (words c.before.before.before.before.before).above h l
 
 -- what is promised once their top is found
-found : (c : tie.After-last) (r : ℕ) → Highest (stored c) r → (0 < r → get_or (stored c) (r - 1) 0 ≡ 0 → ⊥)
+found : (c : tie.After-last-w) (r : ℕ) → Highest (stored c) r → (0 < r → get_or (stored c) (r - 1) 0 ≡ 0 → ⊥)
     → let a = c.before.before.before.before.before.before.before.before.before.before.args in Made a.settings a.s.now (stored c) r
 found c r t q =
     let a = c.before.before.before.before.before.before.before.before.before.before.args in

@@ -15,7 +15,7 @@ use Rattle.uk_ordinal_read.proofs.read_year.Statement.{statement}
 use Rattle.uk_ordinal_read.proofs.read_year.Tie as tie
 
 -- the groups that were made of the ordinal
-made : (c : tie.After-guess) → let a = c.before.before.before.before.before.before in
+made : (c : tie.After-guess-n) → let a = c.before.before.before.before.before.before in
     c.guess-n.new.1.1.0 ≡ ordinal_groups (in_gender masculine a.args.settings) (year_ordinal a.args.settings c.before.before.before.before.seems_early-early.result a.args.s.now)
 made c =
     let a = c.before.before.before.before.before.before in
@@ -23,7 +23,7 @@ made c =
     c.guess-n.ensures.0.0 ∙ ap (λ (S : Settings). ordinal_groups S c.before.before.before.ordinal-ordinal.result.now) c.before.before.in_gender.ensures ∙ ap (ordinal_groups M) c.before.before.before.ordinal-ordinal.ensures
 
 -- what the two tests decide
-decides : (c : tie.Joined1) → let a = c.before.before.before.before.before.before.before.before.before in let g = c.before.before.before in
+decides : (c : tie.Joined-is_year) → let a = c.before.before.before.before.before.before.before.before.before in let g = c.before.before.before in
     Decides c.if-is_year.stands (Tested a.args.settings a.requires.0 a.requires.1 a.args.s.now g.guess-n.new.1.1.0 c.before.before.before.before.before.before.before.seems_early-early.result c.before.before.before.before.before.before.before.seems_early-early.ensures (made g))
 decides c =
     let a = c.before.before.before.before.before.before.before.before.before in

@@ -18,7 +18,7 @@ low_words_spec =
     (tie.spec
     (λ c κs. search rules)
     (λ c. search rules)
-    (λ c. rw c.before.before.before.before.if-t-eq0.true (retell 2 c.before.before.unit_word_lem.ensures (omega arith) refl))
+    (λ c. rw c.before.before.before.before.if-t-eq0.true (retell 2 c.before.before.unit_word.ensures (omega arith) refl))
     (λ c κs. search rules) (λ c κs. search rules) (λ c κs. search rules)
     (λ c κs. omega (arith, c.before.before.before.before.before.before.before.before.before.before.requires.3, (c.before.before.before.before.push-k.ensures uk_pool).near, c.before.before.before.before.push-k.auto.0))
     (λ c. search rules)

@@ -18,7 +18,7 @@ use Rattle.uk_read.proofs.read_cardinal.Statement.{statement}
 use Rattle.uk_read.proofs.read_cardinal.Tie as tie
 
 -- the groups that were made of the bytes
-made : (c : tie.After-groups) → All (after_minus (split c.before.before.before.before.before.args.s.now)) c.groups-span.new.1.1.0 c.groups-span.result.orders
+made : (c : tie.After-groups-span) → All (after_minus (split c.before.before.before.before.before.args.s.now)) c.groups-span.new.1.1.0 c.groups-span.result.orders
 made c =
     let a = c.before.before.before.before.before in
     let s = a.args.s.now in
@@ -28,7 +28,7 @@ made c =
     rw e at (all_read (split (from m.result s)) a.args.out.now c.groups-span.new.1.1.0 c.groups-span.result.orders a.requires.1 g.0.0 g.0.1 g.1.1.0 g.1.1.1)
 
 -- the groups are 0 just where the highest of them that is not stands nowhere
-zero_is : (c : tie.After-top) → eqb c.top-n.result 0 ≡ eqb (total c.before.before.before.groups-span.new.1.1.0) 0
+zero_is : (c : tie.After-top-n) → eqb c.top-n.result 0 ≡ eqb (total c.before.before.before.groups-span.new.1.1.0) 0
 zero_is c = top_zero _ _ c.top-n.ensures.0 c.top-n.ensures.1
 
 returns : tie.Need-returns

@@ -21,7 +21,7 @@ put-text-requires c κs =
     (s.requires.0, (s.requires.1.0, (omega (arith, s.requires.1.1), omega (arith, s.requires.1.1))))
 
 -- with hundredths, w is three more than the length of the whole part
-module _ (c : tie.Else1) where
+module _ (c : tie.Else-h-eq0) where
   whole : c.before.before.before.args.w ≡ length (decimal (total c.before.before.before.args.g.now)) + 3
   whole =
       let s = c.before.before.before in

@@ -24,7 +24,7 @@ few w n h t = go (dec_lt 7 n)
     go (no q) = omega arith
 
 -- the groups that are stored, and the whole part that they make up
-module _ (c : tie.After-plan) where
+module _ (c : tie.After-plan-1) where
   abbrev whole : ℕ
   whole = c.before.before.before.before.before.before.args.whole
 

@@ -18,7 +18,7 @@ use Rattle.uk_ordinal_calls.proofs.digits.say.Statement.{statement}
 use Rattle.uk_ordinal_calls.proofs.digits.say.Tie as tie
 
 -- what is written, and how long it is
-module _ (c : tie.After-short-ending) where
+module _ (c : tie.After-short_ending-ending) where
   abbrev said : List ℕ
   said = c.before.before.before.before.args.text.now ++ (45 ∷ part short_pool c.short_ending-ending.result)
 
@@ -31,7 +31,7 @@ module _ (c : tie.After-short-ending) where
   size n e = rw (size_is c.before.before.before.before.args.text.now (part short_pool c.short_ending-ending.result)) (omega arith)
 
 -- out holds it: it is measured, or every ending fits
-room : (c : tie.Joined1) → length (said c.before) ≤ length c.before.before.before.before.before.args.out.now
+room : (c : tie.Joined-out-n) → length (said c.before) ≤ length c.before.before.before.before.before.args.out.now
 room c =
     let l = c.before in
     ⊎_elim (λ w. omega (arith, size l w.1.result w.1.ensures.0, w.2.left))

@@ -14,7 +14,7 @@ use Rattle.uk_ordinal_read.proofs.last.last.Statement.{statement}
 use Rattle.uk_ordinal_read.proofs.last.last.Tie as tie
 
 -- where the stem is no compound's
-plain : (c : tie.Joined1) → compound c.before.before.args.stem.now ≡ false
+plain : (c : tie.Joined-n-gt0) → compound c.before.before.args.stem.now ≡ false
 plain c =
     let s = c.before.before.args.stem.now in
     ⊎_elim (λ w. ne_eqb (get_or s (length s - 1) 0) 189 w.2.left) (λ w. empty_plain s w.left) c.if-n-gt0.branch
