@@ -22,7 +22,7 @@ grouped c =
     let s = c.before.before.before.before.before.before in
     held_text 34 s.args.text.now _ _ _ s.requires.1 s.requires.2 c.before.before.after_sign-digits.ensures c.before.groups34-gs.ensures c.count-orders.ensures
 
-phrase_is : (c : tie.After-plan_ordinal-n) → let a = c.before.before.before.before.before.before.before.before.before.before.args in phrase_of (says fr_pool c.plan_ordinal-n.new.1.1.1.1.0 c.plan_ordinal-n.result) ≡ (fr_to_ordinal a.settings a.text.now).phrase
+phrase_is : (c : tie.After-plan_ordinal-n) → let a = c.before.before.before.before.before.before.before.before.before.before.args in phrase_of (says fr_pool c.plan_ordinal-n.new.plan c.plan_ordinal-n.result) ≡ (fr_to_ordinal a.settings a.text.now).phrase
 phrase_is c = c.plan_ordinal-n.ensures.1 ∙ ap (nth_phrase _) (grouped c.before.before.before.before).number
 
 plan-ordinal-requires : tie.Need-plan_ordinal-n-requires

@@ -43,10 +43,10 @@ some c =
     let gs = s.args.gs.now in
     some_codes c.plan_words-count.ensures (spaced_some (french_joiner s.args.settings) (cardinal_words (french s.args.settings) false (total gs)) (some_words s.args.settings (total gs) (groups_hold gs s.requires.2)))
 
-within : (c : tie.After-plan_words-count) → c.plan_words-count.result ≤ length c.plan_words-count.new.1.1.1.1.1.0
+within : (c : tie.After-plan_words-count) → c.plan_words-count.result ≤ length c.plan_words-count.new.plan
 within c = omega (arith, c.plan_words-count.ensures.near, c.plan_words-count.ensures.same, c.before.before.before.before.before.before.before.before.requires.4)
 
-known : (c : tie.After-plan_words-count) → Known (get_or c.plan_words-count.new.1.1.1.1.1.0 (c.plan_words-count.result - 1) 0 / 256)
+known : (c : tie.After-plan_words-count) → Known (get_or c.plan_words-count.new.plan (c.plan_words-count.result - 1) 0 / 256)
 known c = last_known c.plan_words-count.ensures (some c) (within c)
 
 returns-2 : tie.Need-returns

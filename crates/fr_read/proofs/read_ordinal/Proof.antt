@@ -9,9 +9,9 @@ use Rattle.fr_read.proofs.read_ordinal.Tie as tie
 
 returns : tie.Need-returns
 returns c =
-    let s = c.before.before.before.before.before.before.before.before.before in
-    let r = read_nth s.args.settings s.requires.0 s.args.s.now _ c.before.before.before.before.before.before.guess-m.ensures.0 _ (eqb c.before.before.before.top-n.result 0) c.before.is_ordinal-stands.ensures in
-    (rw c.seen_of-seen.ensures r.0, r.1, c.before.before.before.top-n.ensures.0)
+    let s = c.before.before.before.before.before.before.before.before in
+    let r = read_nth s.args.settings s.requires.0 s.args.s.now _ c.before.before.before.before.before.guess-m.ensures.0 _ (eqb c.before.before.top-n.result 0) c.before.is_ordinal-stands.ensures in
+    (rw c.seen_of-seen.ensures r.0, r.1, c.before.before.top-n.ensures.0)
 
 pub read_ordinal_spec : {M : Type 1} → statement M
 read_ordinal_spec =

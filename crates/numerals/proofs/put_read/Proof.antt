@@ -18,6 +18,6 @@ put_read_spec =
     (λ c κs. search rules)
     (λ c. search rules)
     (λ c. search rules)
-    (λ c. told Plain _ _ _ _ c.before.before.before.before.enum_told-in-Plain-1.given.1 c.before.before.put_number.ensures)
+    (λ c. told Plain _ _ _ _ c.before.before.before.before.in-Plain.is c.before.before.put_number.ensures)
     (λ c. search rules)
-    (λ c. told Negative _ _ _ _ c.before.before.before.before.enum_told-in-Negative-1.given.1 c.before.before.put_number-in-Negative.ensures))
+    (λ c. told Negative _ _ _ _ c.before.before.before.before.in-Negative.is c.before.before.put_number-in-Negative.ensures))

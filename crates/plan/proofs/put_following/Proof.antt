@@ -42,7 +42,7 @@ loop-again c =
       (
         rw (next pool plan at.loop-i.i taken, length-append) (omega (arith, inv.1.0, p.ensures.0)),
         (
-          rw (next pool plan at.loop-i.i taken) (wrote at.loop-i.k s.args.out.now (upto pool at.loop-i.i plan) b at.loop-i.out p.new.1.1.0 inv.1.0 inv.1.1.0 p.ensures.1),
+          rw (next pool plan at.loop-i.i taken) (wrote at.loop-i.k s.args.out.now (upto pool at.loop-i.i plan) b at.loop-i.out p.new.out inv.1.0 inv.1.1.0 p.ensures.1),
           (c.before.out-1.given.1 ∙ inv.1.1.1.0, inv.1.1.1.1),
         ),
       ),

@@ -36,7 +36,7 @@ plan-cardinal-requires c κs =
 
 -- what the plan says
 phrase_is : (c : tie.After-plan_cardinal-n) → let p = c.plan_cardinal-n in let a = c.before.before.before.before.before.before.before.before.before.before.args in
-    phrase_of (says uk_pool p.new.1.1.1.1.1.0 p.result) ≡ (uk_to_cardinal a.settings a.text.now).phrase
+    phrase_of (says uk_pool p.new.plan p.result) ≡ (uk_to_cardinal a.settings a.text.now).phrase
 phrase_is c = c.plan_cardinal-n.ensures.1 ∙ rw (c.before.before.before.before.before.before.is_negative-minus.ensures, (grouped c.before).number) refl
 
 pub spell_spec : {M : Type 1} → statement M
@@ -44,6 +44,6 @@ spell_spec =
     tie.close
     (tie.spec (λ c κs. search rules) (λ c κs. search rules) (λ c κs. search rules) groups22-requires (λ c κs. search rules) (λ c. search rules) plan-cardinal-requires
     (λ c. search rules)
-    (λ c κs. let p = c.before.before.before.plan_cardinal-n in (omega (arith, p.ensures.0, p.auto.1.1.1.1.1.0), omega (arith, p.ensures.0)))
+    (λ c κs. let p = c.before.before.before.plan_cardinal-n in (omega (arith, p.ensures.0, p.auto.plan), omega (arith, p.ensures.0)))
     (λ c. search rules)
     (λ c. (heard _ _ _ (phrase_is c.before.before.before.before.before.before) c.before.before.speak.ensures.0, omega (arith, c.before.before.speak.ensures.1, c.before.before.before.before.before.before.plan_cardinal-n.ensures.0))))

@@ -16,24 +16,24 @@ use Rattle.uk_money_calls.proofs.read.Tie as tie
 
 returns : tie.Need-returns-in-Refused
 returns c =
-    let a = c.before.before.before.before.before.before.before.args in
-    let p = c.before.before.before.read_money-read in
-    seen_none a.settings (currency_at a.currency) c.before.before.before.before.before.before.before.requires.0 a.said.now p.new.1.1.1.0 a.out.now a.out.now _
-    (subst (λ (x : SeenAmount). ReadMoney a.settings (currency_at a.currency) a.said.now x p.new.1.1.1.0) c.before.enum_told-1.given.1 p.ensures.0)
+    let a = c.before.before.before.before.before.before.args in
+    let p = c.before.read_money-read in
+    seen_none a.settings (currency_at a.currency) c.before.before.before.before.before.before.before.requires.0 a.said.now p.new.out a.out.now a.out.now _
+    (subst (λ (x : SeenAmount). ReadMoney a.settings (currency_at a.currency) a.said.now x p.new.out) c.before.enum_told-1.given.1 p.ensures.0)
     (refuses c.refused.ensures)
 
 returns-2 : tie.Need-returns-in-Amount
 returns-2 c =
-    let a = c.before.before.before.before.before.before.before.before.before.before.before.before.args in
+    let a = c.before.before.before.before.before.before.before.before.before.before.args in
     let p = c.before.before.before.before.before.before.before.before.read_money-read in
     let h = c.before.before.before.before.before.before.seen-1.given in
-    seen_some a.settings (currency_at a.currency) c.before.before.before.before.before.before.before.before.before.before.before.before.requires.0 a.said.now p.new.1.1.1.0 a.out.now _ c.before.before.put_money_text.result h.0.0
-    (subst (λ (x : SeenAmount). ReadMoney a.settings (currency_at a.currency) a.said.now x p.new.1.1.1.0) h.1 p.ensures.0)
+    seen_some a.settings (currency_at a.currency) c.before.before.before.before.before.before.before.before.before.before.before.before.requires.0 a.said.now p.new.out a.out.now _ c.before.before.put_money_text.result h.0.0
+    (subst (λ (x : SeenAmount). ReadMoney a.settings (currency_at a.currency) a.said.now x p.new.out) h.1 p.ensures.0)
     c.before.before.put_money_text.ensures
 
 put-money-text-requires : tie.Need-put_money_text-requires
 put-money-text-requires c κs =
-    let p = c.before.before.before.before.before.read_money-read.ensures in
+    let p = c.before.before.before.read_money-read.ensures in
     let h = c.before.before.before.seen-1.given in
     ((p.0.groups, p.1), ((omega (arith, p.0.size), omega (arith, p.0.size)), subst (λ (x : SeenAmount). seen_hundredths x < 100) h.1 p.0.hundredths))
 

@@ -61,6 +61,6 @@ plan_money_spec =
     (λ c κs.
     let p = c.before.before.before.before.before.before.before.before.before.requires in
     let q = c.before.before.before.say_main-k in
-    (held c.before.before.before.before.before.before.before, p.0.1, omega (arith, c.before.before.before.before.before.before.if-hundredths-eq0.false), p.0.4, omega (arith, p.0.2, p.0.5, q.ensures.added.near, q.auto.1.1.1.1.1.0)))
+    (held c.before.before.before.before.before.before.before, p.0.1, omega (arith, c.before.before.before.before.before.before.if-hundredths-eq0.false), p.0.4, omega (arith, p.0.2, p.0.5, q.ensures.added.near, q.auto.plan)))
     (λ c. search rules)
     returns-3)

@@ -45,7 +45,7 @@ lowest-words-requires c κs =
     let s = c.before.before.before.before.before.before.before.before.before.before.before.before.before in
     let q = c.before.before.before.higher-k in
     rw c.before.before.before.before.before.wide_group-g.ensures
-    (s.requires.0, inside c.before.before.before.before.before.before.before, positive c.before.before.before.before.before.before.before, s.requires.1.below c.before.before.before.before.before.before.before.before.lowest-order.result, omega (arith, s.requires.3, q.ensures.added.near, q.auto.1.1.1.1.1.0))
+    (s.requires.0, inside c.before.before.before.before.before.before.before, positive c.before.before.before.before.before.before.before, s.requires.1.below c.before.before.before.before.before.before.before.before.lowest-order.result, omega (arith, s.requires.3, q.ensures.added.near, q.auto.plan))
 
 returns-2 : tie.Need-returns
 returns-2 c =

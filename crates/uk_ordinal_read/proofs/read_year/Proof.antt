@@ -16,20 +16,20 @@ use Rattle.uk_ordinal_read.proofs.read_year.Tie as tie
 
 -- the groups that were made of the ordinal
 made : (c : tie.After-guess-n) → let a = c.before.before.before.before.before.before in
-    c.guess-n.new.1.1.0 ≡ ordinal_groups (in_gender masculine a.args.settings) (year_ordinal a.args.settings c.before.before.before.before.seems_early-early.result a.args.s.now)
+    c.guess-n.new.out ≡ ordinal_groups (in_gender masculine a.args.settings) (year_ordinal a.args.settings c.before.before.before.before.seems_early-early.result a.args.s.now)
 made c =
     let a = c.before.before.before.before.before.before in
     let M = in_gender masculine a.args.settings in
     c.guess-n.ensures.0.0 ∙ ap (λ (S : Settings). ordinal_groups S c.before.before.before.ordinal-ordinal.result.now) c.before.before.in_gender.ensures ∙ ap (ordinal_groups M) c.before.before.before.ordinal-ordinal.ensures
 
 -- what the two tests decide
-decides : (c : tie.Joined-is_year) → let a = c.before.before.before.before.before.before.before.before.before in let g = c.before.before.before in
-    Decides c.if-is_year.stands (Tested a.args.settings a.requires.0 a.requires.1 a.args.s.now g.guess-n.new.1.1.0 c.before.before.before.before.before.before.before.seems_early-early.result c.before.before.before.before.before.before.before.seems_early-early.ensures (made g))
+decides : (c : tie.Joined-is_year) → let a = c.before.before.before.before.before.before.before.before in let g = c.before.before.before in
+    Decides c.if-is_year.stands (Tested a.args.settings a.requires.0 a.requires.1 a.args.s.now g.guess-n.new.out c.before.before.before.before.before.before.before.seems_early-early.result c.before.before.before.before.before.before.before.seems_early-early.ensures (made g))
 decides c =
     let a = c.before.before.before.before.before.before.before.before.before in
     let g = c.before.before.before in
     let s = a.args.s.now in
-    let gs = g.guess-n.new.1.1.0 in
+    let gs = g.guess-n.new.out in
     let e = c.before.before.before.before.before.before.before.seems_early-early in
     let y = c.before.is_year in
     ⊎_elim
@@ -44,13 +44,13 @@ guess-requires c κs =
 
 returns : tie.Need-returns
 returns c =
-    let a = c.before.before.before.before.before.before.before.before.before.before in
+    let a = c.before.before.before.before.before.before.before.before.before in
     let g = c.before.before.before.before in
-    let e = c.before.before.before.before.before.before.before.before.seems_early-early in
+    let e = c.before.before.before.before.before.before.before.seems_early-early in
     let t = g.guess-n.ensures in (
       (
         rw c.seen_of-seen.ensures
-            (year_read a.args.settings a.requires.0 a.requires.1 a.args.s.now g.guess-n.new.1.1.0 e.result e.ensures (made g) c.before.if-is_year.stands (eqb g.guess-n.result 0) t.1.1 (decides c.before)),
+            (year_read a.args.settings a.requires.0 a.requires.1 a.args.s.now g.guess-n.new.out e.result e.ensures (made g) c.before.if-is_year.stands (eqb g.guess-n.result 0) t.1.1 (decides c.before)),
         t.0.1,
         t.0.2,
       ),
