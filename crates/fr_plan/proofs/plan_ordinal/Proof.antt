@@ -52,12 +52,12 @@ known c = last_known c.plan_words-count.ensures (some c) (within c)
 returns-2 : tie.Need-returns
 unfolding cardinal_phrase french
 returns-2 c =
-    let s = c.before.before.before.before.before.before.before.before.before.before.before.before.before.before in
-    let d = c.before.before.before.before.before.before in
+    let s = c.before.before.before.before.before.before.before.before.before.before.before.before.before.before.before in
+    let d = c.before.before.before.before.before.before.before in
     let t = d.plan_words-count.ensures in
     let gs = s.args.gs.now in
     let S = s.args.settings in
-    let o : eqb (total gs) 1 ≡ false = sym c.before.before.before.before.before.before.before.before.before.before.before.is.ensures ∙ c.before.before.before.before.before.before.before.before.before.before.if-is.false in
+    let o : eqb (total gs) 1 ≡ false = sym c.before.before.before.before.before.before.before.before.before.before.before.before.is.ensures ∙ c.before.before.before.before.before.before.before.before.before.before.before.if-is.false in
     let m = whole_phrase (french_joiner S) (cardinal_words (french S) false (total gs)) t in (
       omega (arith, t.near, c.before.before.say-a.ensures.next, c.say.ensures.next, some d),
       ended t (some d) (within d) c.before.before.say-a.ensures c.say.ensures c.before.before.before.before.stem-place.ensures.0 c.before.before.before.before.stem-place.ensures.1 ième.says
@@ -76,9 +76,9 @@ plan_ordinal_spec =
     plan-words-requires
     (λ c. omega (arith, some c))
     (λ c. search rules)
-    (λ c. omega (arith, within c, some c))
-    (λ c. record { fits = known_fits _ (known c.before) })
-    (λ c κs. (c.before.before.before.before.before.before.before.before.before.requires.0, known c.before))
+    (λ c. omega (arith, within c.before, some c.before))
+    (λ c. record { fits = known_fits _ (known c.before.before) })
+    (λ c κs. (c.before.before.before.before.before.before.before.before.before.before.requires.0, known c.before.before))
     (λ c. search rules)
     (λ c κs. search rules)
     (λ c κs. search rules)

@@ -22,7 +22,7 @@ returns c =
     let s = c.before.before.before.before.before.before.before.before.before.before in
     let t = c.before.before.top-n.ensures in
     let r =
-    read s.args.settings s.requires.0 s.args.s.now _ c.before.before.before.before.before.before.before.before.sign-k.ensures.0 _ (groups c.before.before.before.before.before.before) _ _ (top_zero _ _ t.0 t.1)
+    read s.args.settings s.requires.0 s.args.s.now _ c.before.before.before.before.before.before.before.before.sign-k.ensures.0 _ (groups c.before.before.before.before.before) _ _ (top_zero _ _ t.0 t.1)
     c.before.is_cardinal-stands.ensures in
     (rw c.seen_of-seen.ensures r.0, r.1, t.0)
 
@@ -38,7 +38,7 @@ read_cardinal_spec =
     (λ c κs. let g = c.before.before in (omega (arith, g.guess-m.ensures.2, size g), g.guess-m.ensures.1))
     (λ c κs.
     let t = c.top-n.ensures in
-    let g = c.before.before.before.before in
+    let g = c.before.before.before in
     ((c.before.before.before.before.before.before.before.before.requires.0, t.0.zeros, omega (arith, t.0.fits, size g)), (are_groups _ _ (groups g), top_zero _ _ t.0 t.1)))
     (λ c κs. search rules)
     returns)

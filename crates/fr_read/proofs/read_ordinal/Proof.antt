@@ -19,6 +19,6 @@ read_ordinal_spec =
     (tie.spec
     (λ c κs. search rules)
     (λ c κs. let g = c.before.before.guess-m.ensures in (omega (arith, g.2, (are_groups _ _ g.0).0), g.1))
-    (λ c κs. (c.before.before.before.before.before.before.before.requires.0, are_groups _ _ c.before.before.before.before.guess-m.ensures.0, c.before.top-n.ensures.0))
+    (λ c κs. (c.before.before.before.before.before.before.requires.0, are_groups _ _ c.before.before.before.guess-m.ensures.0, c.top-n.ensures.0))
     (λ c κs. search rules)
     returns)

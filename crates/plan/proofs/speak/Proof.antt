@@ -35,7 +35,7 @@ speak_spec =
     (λ c κs. search rules)
     (λ c. search rules)
     (λ c. search rules)
-    (λ c. let s = c.before.before.before.before.before in sym (length-take-le s.args.n s.args.plan.now s.requires.0))
+    (λ c. let s = c.before.before.before.before in sym (length-take-le s.args.n s.args.plan.now s.requires.0))
     put-requires
     (λ c. search rules)
     returns-2)

@@ -54,7 +54,7 @@ plan-money-requires c κs =
 
 -- what the plan says
 phrase_is : (c : tie.After-plan_money-k) → let p = c.plan_money-k in let a = c.before.before.before.before.before.before.before.before.before.before.before.before.args in
-    phrase_of (says uk_pool p.new.1.1.1.1.1.1.0 p.result) ≡ amount_phrase a.settings (currency_at a.currency) (whole_of a.text.now) (hundredths_of a.text.now)
+    phrase_of (says uk_pool p.new.plan p.result) ≡ amount_phrase a.settings (currency_at a.currency) (whole_of a.text.now) (hundredths_of a.text.now)
 phrase_is c = rw ((grouped c.before).0.number, part_is c.before.before.before) at c.plan_money-k.ensures.1
 
 pub spell_spec : {M : Type 1} → statement M

@@ -30,15 +30,15 @@ hundredths c =
 is-amount-requires : tie.Need-is_amount-requires
 is-amount-requires c κs =
     let a = c.before.before.before.before.before.before.before.before.before.before in
-    let m = made c.before.before.before.before.before.before.before.before in
-    let t = c.before.before.before.before.before.top-n.ensures in
+    let m = made c.before.before.before.before.before.before.before in
+    let t = c.before.before.before.before.top-n.ensures in
     ((a.requires.0, a.requires.1, m.small, m.size), (t.0, top_zero _ _ t.0 t.1))
 
 returns : tie.Need-returns-then-is_amount
 returns c =
     let a = c.before.before.before.before.before.before.before.before.before.before.before.before in
-    let m = made c.before.before.before.before.before.before.before.before.before.before in
-    (found a.args.settings a.requires.0 a.args.currency a.requires.1 a.args.s.now c.before.before.before.before.before.before.before.before.before.before.groups-span.new.out m.size m.small c.before.before.before.lowest-h.result (c.before.is_amount.ensures.holds c.if-is_amount.true), c.before.before.before.before.before.before.before.top-n.ensures.0)
+    let m = made c.before.before.before.before.before.before.before.before.before in
+    (found a.args.settings a.requires.0 a.args.currency a.requires.1 a.args.s.now c.before.before.before.before.before.before.before.before.before.groups-span.new.out m.size m.small c.before.before.lowest-h.result (c.before.is_amount.ensures.holds c.if-is_amount.true), c.before.before.before.before.before.before.top-n.ensures.0)
 
 cast-alone : tie.Need-overflow_cast-alone
 cast-alone c = let m = made c.before.before.before.before.before.before.before.before.before.before.before in omega (arith, group_lt c.before.before.before.before.before.before.before.before.before.before.before.groups-span.new.out 0 m.small (rw m.size (omega arith)))
@@ -54,9 +54,9 @@ returns-2 c =
 returns-3 : tie.Need-returns
 returns-3 c =
     let a = c.before.before.before.before.before.before.before.before.before.before.before.before.before.before.before.before.before in
-    let m = made c.before.before.before.before.before.before.before.before.before.before.before.before.before.before.before in (
-      refused a.args.settings a.requires.0 a.args.currency a.requires.1 a.args.s.now c.before.before.before.before.before.before.before.before.before.before.before.before.before.before.before.groups-span.new.out (zeros 22) refl (zeros_groups 22) refl
-          m.groups-span c.before.before.before.before.before.before.before.before.lowest-h.result (hundredths c.before.before.before.before.before.before.before.before) (c.before.before.before.before.before.before.is_amount.ensures.fails c.before.before.before.before.before.if-is_amount.false) (c.before.is_amount-2.ensures.fails c.if-is_amount-2.false),
+    let m = made c.before.before.before.before.before.before.before.before.before.before.before.before.before.before in (
+      refused a.args.settings a.requires.0 a.args.currency a.requires.1 a.args.s.now c.before.before.before.before.before.before.before.before.before.before.before.before.before.before.groups-span.new.out (zeros 22) refl (zeros_groups 22) refl
+          m.groups c.before.before.before.before.before.before.before.lowest-h.result (hundredths c.before.before.before.before.before.before.before) (c.before.before.before.before.before.before.is_amount.ensures.fails c.before.before.before.before.before.if-is_amount.false) (c.before.is_amount-2.ensures.fails c.if-is_amount-2.false),
       zeros_highest 22,
     )
 

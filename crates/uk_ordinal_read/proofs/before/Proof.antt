@@ -16,5 +16,5 @@ before_spec =
     (λ c. search rules)
     (λ c. let a = c.before.args in none_taken (a.at - 1) a.s.now (omega (arith, c.if-at-eq0.true)))
     (λ c. search rules)
-    (λ c. let a = c.before.before.args in sym (length-take-le (a.at - 1) a.s.now (omega (arith, c.before.before.requires))))
+    (λ c. let a = c.before.args in sym (length-take-le (a.at - 1) a.s.now (omega (arith, c.before.requires))))
     (λ c. search rules))

@@ -58,9 +58,9 @@ found c r t q =
 
 add-out : tie.Need-overflow_add-out
 add-out c =
-    let w = words c.before.before.before.before.before.before.before in
-    let l = c.before.before.last-w in
-    let g = group_lt c.before.before.before.before.before.before.before.groups-span.new.out l.result.order w.small (omega (arith, w.size, l.ensures.2)) in
+    let w = words c.before.before.before.before.before.before.before.before in
+    let l = c.before.before.before.last-w in
+    let g = group_lt c.before.before.before.before.before.before.before.before.groups-span.new.out l.result.order w.small (omega (arith, w.size, l.ensures.2)) in
     omega (arith, g, l.ensures.3)
 
 pub guess_spec : {M : Type 1} → statement M
@@ -84,11 +84,11 @@ guess_spec =
     (λ c. search rules)
     (λ c. search rules)
     (λ c κs.
-    let l = c.before.before.before.before.before.before in
+    let l = c.before.before.before.before.before.before.before in
     (omega (arith, stored-length l, l.last-w.ensures.2), zeros l (l.last-w.result.order + 1) (omega (arith, c.before.before.if-span-order.true)) (omega arith)))
-    (λ c. found c.before.before.before.before.before.before.before c.top.result c.top.ensures.0 c.top.ensures.1)
+    (λ c. found c.before.before.before.before.before.before.before.before c.top.result c.top.ensures.0 c.top.ensures.1)
     (λ c κs.
     let l = c.before.before.before.before.before.before in
-    let w = words c.before.before.before.before.before.before.before.before.before.before.before in
-    (omega (arith, stored-length l, w.size, w.few), zeros l c.before.before.before.before.before.before.before.before.before.before.before.groups-span.result.orders (omega arith) c.before.before.if-span-order.false))
-    (λ c. found c.before.before.before.before.before.before.before c.top-2.result c.top-2.ensures.0 c.top-2.ensures.1))
+    let w = words c.before.before.before.before.before.before.before.before.before.before.before.before in
+    (omega (arith, stored-length l, w.size, w.few), zeros l c.before.before.before.before.before.before.before.before.before.before.before.before.groups-span.result.orders (omega arith) c.before.before.if-span-order.false))
+    (λ c. found c.before.before.before.before.before.before.before.before c.top-2.result c.top-2.ensures.0 c.top-2.ensures.1))

@@ -35,18 +35,18 @@ returns : tie.Need-returns
 returns c =
     let a = c.before.before.before.before.before.before.before.before.before.before.before.before.before.before in
     let gs = c.before.before.before.before.before.before.before.before.before.groups-span.new.out in
-    let m = made c.before.before.before.before.before.before.before.before.before.before in
-    let sign = c.before.before.before.before.before.before.before.before.before.before.before.before.before.minus-m in
+    let m = made c.before.before.before.before.before.before.before.before.before in
+    let sign = c.before.before.before.before.before.before.before.before.before.before.before.before.minus-m in
     let p = c.before.before.before.before.plan_cardinal-k in
     let d = words_stand c.before.stands-stands.result a.args.s.now uk_pool p.new.plan _ p.result p.ensures.1 c.before.stands-stands.ensures in (
       (
         rw c.seen_of-seen.ensures
-            (read a.args.settings a.requires.0 a.args.s.now _ gs (sign_is _ sign.result sign.ensures.0) m.groups-span _ _
-            (zero_is c.before.before.before.before.before.before.before) d),
+            (read a.args.settings a.requires.0 a.args.s.now _ gs (sign_is _ sign.result sign.ensures.0) m.groups _ _
+            (zero_is c.before.before.before.before.before.before) d),
         m.small,
         m.size,
       ),
-      c.before.before.before.before.before.before.before.top-n.ensures.0,
+      c.before.before.before.before.before.before.top-n.ensures.0,
     )
 
 groups-requires : tie.Need-groups-span-requires
@@ -63,9 +63,9 @@ slice-aggregate-stands c =
 plan-cardinal-requires : tie.Need-plan_cardinal-k-requires
 plan-cardinal-requires c κs =
     let s = c.before.before.before.before.before.before.before.before.before in
-    let m = made c.before.before.before.before.before in
-    let t = c.before.before.top-n.ensures.0 in
-    ((s.requires.0, omega (arith, t.fits, m.size), t.zeros, omega arith), (m.small, m.size, zero_is c.before.before))
+    let m = made c.before.before.before.before in
+    let t = c.before.top-n.ensures.0 in
+    ((s.requires.0, omega (arith, t.fits, m.size), t.zeros, omega arith), (m.small, m.size, zero_is c.before))
 
 pub read_cardinal_spec : {M : Type 1} → statement M
 read_cardinal_spec =
