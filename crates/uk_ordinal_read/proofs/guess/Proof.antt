@@ -88,7 +88,7 @@ guess_spec =
     (omega (arith, stored-length l, l.last-w.ensures.2), zeros l (l.last-w.result.order + 1) (omega (arith, c.before.before.if-span-order.true)) (omega arith)))
     (λ c. found c.before.before.before.before.before.before.before.before c.top.result c.top.ensures.0 c.top.ensures.1)
     (λ c κs.
-    let l = c.before.before.before.before.before.before in
+    let l = c.before.before.before.before.before.before.before in
     let w = words c.before.before.before.before.before.before.before.before.before.before.before.before in
     (omega (arith, stored-length l, w.size, w.few), zeros l c.before.before.before.before.before.before.before.before.before.before.before.before.groups-span.result.orders (omega arith) c.before.before.if-span-order.false))
     (λ c. found c.before.before.before.before.before.before.before.before c.top-2.result c.top-2.ensures.0 c.top-2.ensures.1))
