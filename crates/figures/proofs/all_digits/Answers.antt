@@ -14,8 +14,8 @@ loop-i-preserved c =
     let b = (c.type_inv.s l.i).fits in (
       omega arith,
       l.invariant.1 ∙ elim c.if-farthest-past.branch [
-        then-farthest-past w ↦ rw w.farthest-is (digits_farther s l.i l.farthest p.result h b p.ensures.value w.if-farthest-past.true)
-      | else-farthest-past w ↦ rw w.farthest-is (digits_nearer s l.i l.farthest p.result h b p.ensures.value w.if-farthest-past.false)
+        | then-farthest-past w ↦ rw w.farthest-is (digits_farther s l.i l.farthest p.result h b p.ensures.value w.if-farthest-past.true)
+        | else-farthest-past w ↦ rw w.farthest-is (digits_nearer s l.i l.farthest p.result h b p.ensures.value w.if-farthest-past.false)
       ],
     )
 

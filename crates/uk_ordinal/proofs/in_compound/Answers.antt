@@ -16,8 +16,8 @@ returns c =
     let a = c.args in
     let asks = c.is_school.ensures in
     let settings : in_genitive a.settings ≡ compound_settings a.settings a.digit a.nominative =
-      elim c.if-is_school.branch [
-        then-is_school+else-digit-nominative w ↦ genitive_digit a.settings a.digit a.nominative (sym asks ∙ w.if-is_school.true) w.if-digit-nominative.false
+    elim c.if-is_school.branch [
+      | then-is_school+else-digit-nominative w ↦ genitive_digit a.settings a.digit a.nominative (sym asks ∙ w.if-is_school.true) w.if-digit-nominative.false
       | else-is_school w ↦ genitive_ported a.settings a.digit a.nominative (sym asks ∙ w.if-is_school.false)
-      ] in
+    ] in
     (c.in_genitive.ensures.0 ∙ settings, c.in_genitive.ensures.1)

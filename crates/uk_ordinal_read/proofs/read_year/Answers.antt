@@ -27,12 +27,12 @@ returns c =
     let t = c.guess-n.ensures in
     -- the groups that were made of the ordinal
     let made : gs ≡ ordinal_groups M (year_ordinal a.settings e.result a.s.now) =
-      t.out_after.0 ∙ ap (λ (S : Settings). ordinal_groups S c.ordinal-ordinal.result.now) c.in_gender.ensures ∙ ap (ordinal_groups M) c.ordinal-ordinal.ensures in
+    t.out_after.0 ∙ ap (λ (S : Settings). ordinal_groups S c.ordinal-ordinal.result.now) c.in_gender.ensures ∙ ap (ordinal_groups M) c.ordinal-ordinal.ensures in
     -- what the two tests decide
     let decides : Decides c.if-is_year.stands (Tested a.settings p.0 p.1 a.s.now gs e.result e.ensures made) =
-      elim c.if-is_year.branch [
-        then-is_year w ↦ as_year a.settings p.0 p.1 a.s.now gs e.result e.ensures made c.if-is_year.stands w.is_phrase-stands.result w.stands-is (sym y.ensures ∙ w.if-is_year.true) w.is_phrase-stands.ensures
+    elim c.if-is_year.branch [
+      | then-is_year w ↦ as_year a.settings p.0 p.1 a.s.now gs e.result e.ensures made c.if-is_year.stands w.is_phrase-stands.result w.stands-is (sym y.ensures ∙ w.if-is_year.true) w.is_phrase-stands.ensures
       | else-is_year w ↦ no_year a.settings p.0 p.1 a.s.now gs e.result e.ensures made c.if-is_year.stands w.stands-is (sym y.ensures ∙ w.if-is_year.false)
-      ] in
+    ] in
     let reads = year_read a.settings p.0 p.1 a.s.now gs e.result e.ensures made c.if-is_year.stands (eqb c.guess-n.result 0) t.highest.1 decides in
     record { read_of = (rw c.seen_of-seen.ensures reads, t.out_after.1, t.out_after.2); highest = t.highest.0 }

@@ -36,10 +36,10 @@ put-length-requires c =
     let k = c.short_ending-ending.result in
     -- out holds it: it is measured, or every ending fits
     let room : length (said t k) ≤ length c.args.out.now =
-      elim c.if-out-n.branch [
-        then-out-n+else-out-size w ↦ omega (arith, size t k w.short_len.result w.short_len.ensures.0, w.if-out-size.false)
+    elim c.if-out-n.branch [
+      | then-out-n+else-out-size w ↦ omega (arith, size t k w.short_len.result w.short_len.ensures.0, w.if-out-size.false)
       | else-out-n w ↦ omega (arith, size t k _ refl, part_short short_pool k, w.if-out-n.false)
-      ] in
+    ] in
     (c.requires.3, room)
 
 pub returns : goal.returns
@@ -50,8 +50,8 @@ returns c =
     let p = c.put-length in
     let is_said = is_ordinal a.settings t (part short_pool k) c.is_soft.result c.is_soft.ensures c.short_ending-ending.ensures in
     let room : length (said t k) ≤ length a.out.now =
-      elim c.if-out-n.branch [
-        then-out-n+else-out-size w ↦ omega (arith, size t k w.short_len.result w.short_len.ensures.0, w.if-out-size.false)
+    elim c.if-out-n.branch [
+      | then-out-n+else-out-size w ↦ omega (arith, size t k w.short_len.result w.short_len.ensures.0, w.if-out-size.false)
       | else-out-n w ↦ omega (arith, size t k _ refl, part_short short_pool k, w.if-out-n.false)
-      ] in
+    ] in
     record { answers = heard _ _ _ is_said (written a.out.now (said t k) _ p.ensures.0 _ (omega (arith, room, p.ensures.0)) p.ensures.1); length_le_phrase_room = omega (arith, p.ensures.0, size t k _ refl, part_short short_pool k, c.requires.3) }

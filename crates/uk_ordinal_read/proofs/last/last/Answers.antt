@@ -17,8 +17,8 @@ pub returns : goal.returns
 returns c =
     let s = c.args.stem.now in
     let plain : compound s ≡ false =
-      elim c.if-n-gt0.branch [
-        then-n-gt0+else-stem-n w ↦ ne_eqb (get_or s (length s - 1) 0) 189 w.if-stem-n.false
+    elim c.if-n-gt0.branch [
+      | then-n-gt0+else-stem-n w ↦ ne_eqb (get_or s (length s - 1) 0) 189 w.if-stem-n.false
       | else-n-gt0 w ↦ empty_plain s w.if-n-gt0.false
-      ] in
+    ] in
     plain_stem s c.meaning-m.result plain (c.meaning-m.ensures ∙ ap meaning_of c.first-t.ensures.0)
