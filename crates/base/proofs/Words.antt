@@ -88,7 +88,7 @@ ends {t = b ∷ s} h = next_runs refl (first_runs h).1
 pub followed : {begun : Bool} {a b : List ℕ} → Runs begun a → Trails b → Runs begun (a ++ b)
 followed {begun = true} {a = []} p q = q
 followed {begun = false} {a = []} p q = clash_of p.test
-followed {a = c ∷ a} p q = let r = first_runs p in next_runs r.0 (followed {a = a} r.1 q)
+followed {begun = begun} {a = c ∷ a} {b = b} p q = let r = first_runs p in next_runs r.0 (followed {begun = not (eqb c space)} {a = a} {b = b} r.1 q)
 
 -- and behind a joiner, a space or another byte
 pub behind : (j : ℕ) {t : List ℕ} → Solid t → Trails (j ∷ t)

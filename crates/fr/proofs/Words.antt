@@ -8,7 +8,7 @@ use native.Mathlib.Omega.{arith}
 use native.Mathlib.Decide.{ℕ_discrete}
 use lib.Dec.{eqb}
 use Rattle.base.specs.Join.{Word}
-use Rattle.base.specs.Signs.{letter_e}
+use Rattle.base.specs.Signs.{letter_e, space}
 use Rattle.base.specs.Utf8.{utf8, form1}
 use Rattle.base.proofs.Words.{Runs, tested, Solid, Trails, first_runs, next_runs, ends, followed, either, Solids, solids_append, at1}
 use Rattle.settings.specs.declared.Settings.{Settings}
@@ -125,7 +125,7 @@ nth_runs {begun} {w = b ∷ []} p = go (eqb b letter_e)
     go : (t : Bool) → Runs begun (cond t [] (b ∷ []) ++ utf8 "ième")
     go true = ending_runs begun
     go false = followed p (ending_runs true)
-nth_runs {w = b ∷ c ∷ s} p = let r = first_runs p in next_runs r.0 (nth_runs r.1)
+nth_runs {begun = begun} {w = b ∷ c ∷ s} p = let r = first_runs p in next_runs r.0 (nth_runs {begun = not (eqb b space)} {w = c ∷ s} r.1)
 
 -- ordinals
 pub nth_solid : (S : Settings) (n : ℕ) → n < 1000 ^ 34 → Solid (nth_phrase S n)

@@ -1,5 +1,7 @@
 #![tactic(auto)]
 // The program phrases: a line of standard input is a form, and is answered by a line.
-fn main() {
-    phrases_blocks::answer_input();
+use std::io;
+
+fn main(rt: HostRuntime) -> io::Result<()> {
+    phrases_blocks::answer_input(&rt)
 }

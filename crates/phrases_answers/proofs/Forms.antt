@@ -10,6 +10,10 @@ use Rattle.base.specs.Answer.{Spelling}
 use Rattle.base.specs.Join.{Word}
 use Rattle.base.proofs.Fronts.{and_false}
 use Rattle.settings.specs.declared.Settings.{Settings}
+use Rattle.uk_calls.specs.UkCardinals.{uk_to_cardinal}
+use Rattle.uk_ordinal_calls.specs.UkOrdinals.{uk_to_ordinal, uk_to_ordinal_num, year_text}
+use Rattle.uk_money_calls.specs.MoneyCalls.{uk_to_currency}
+use Rattle.fr_calls.specs.FrCalls.{fr_to_cardinal, fr_to_ordinal}
 use Rattle.phrases_forms.specs.Line.{words_of, kind_of, language_of, gender_of, grammatical_number_of, case_of, feminine_of, reformed_of, region_of}
 use Rattle.base.specs.Divide.{divided}
 use Rattle.phrases_forms.specs.Cuts.{next_word, after_space}
@@ -23,17 +27,17 @@ use Rattle.phrases_answers.specs.Left.{ukrainian_left, french_left, settled_left
 
 ukrainian_is : (k : Kind) (S : Settings) (s : List ℕ) → ukrainian_form k S (words_of s) ≡ ukrainian_left k S s
 unfolding ukrainian_form ukrainian_left
-ukrainian_is Card S s = text_is _ s
-ukrainian_is Ord S s = text_is _ s
-ukrainian_is Num S s = text_is _ s
-ukrainian_is Year S s = text_is _ s
-ukrainian_is Money S s = code_is _ s
+ukrainian_is Card S s = text_is (uk_to_cardinal S) s
+ukrainian_is Ord S s = text_is (uk_to_ordinal S) s
+ukrainian_is Num S s = text_is (uk_to_ordinal_num S) s
+ukrainian_is Year S s = text_is (year_text S) s
+ukrainian_is Money S s = code_is (uk_to_currency S) s
 ukrainian_is Other S s = refl
 
 french_is : (k : Kind) (S : Settings) (s : List ℕ) → french_form k S (words_of s) ≡ french_left k S s
 unfolding french_form french_left
-french_is Card S s = text_is _ s
-french_is Ord S s = text_is _ s
+french_is Card S s = text_is (fr_to_cardinal S) s
+french_is Ord S s = text_is (fr_to_ordinal S) s
 french_is Num S s = refl
 french_is Year S s = refl
 french_is Money S s = refl

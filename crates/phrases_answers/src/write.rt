@@ -11,7 +11,7 @@ pub fn bad(out: &mut [u8]) -> usize
     requires { line_room ≤ length out.old }
     ensures { Wrote bad_line result out.old out.new }
 {
-    bytes::copy(b"bad line\n", out)
+    words::copy(b"bad line\n", out)
 }
 
 // Writes a refusal, with its number as a number text.
@@ -23,12 +23,12 @@ pub fn refuse(n: u32, out: &mut [u8]) -> usize
     if k < 10 {
         let mut line = *b"refused 0\n";
         line[8] = b'0' + k;
-        return bytes::copy(&line, out);
+        return words::copy(&line, out);
     }
     let mut line = *b"refused 00\n";
     line[8] = b'0' + k / 10;
     line[9] = b'0' + k % 10;
-    bytes::copy(&line, out)
+    words::copy(&line, out)
 }
 
 // Ends the line of a call's answer, whose phrase, if it is one, stands at the front of out.

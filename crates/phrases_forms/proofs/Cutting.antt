@@ -44,6 +44,8 @@ and_none false b c e = refl
 
 shut_spaced : (s : List ℕ) → Spaced s → shut s ≡ false
 unfolding shut
+shut_spaced [] h = elim h [ ]
+shut_spaced (b ∷ []) (there h) = elim h [ ]
 shut_spaced (b ∷ []) (here e) = rw e refl
 shut_spaced (b ∷ c ∷ s) (here e) = let k : suc (suc (length s)) - 1 ≡ suc (length s) = omega arith in rw (k, e) refl
 shut_spaced (b ∷ c ∷ s) (there h) =

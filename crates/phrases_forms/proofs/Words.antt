@@ -1,6 +1,6 @@
 -- Laws of a line's words: where the first one ends, names, and runs.
 -- Assumes nothing.
-use Prim.Native.Nat.{ℕ, suc, ◌+◌, ◌-◌, ◌<◌, ◌≤◌}
+use Prim.Native.Nat.{ℕ, zero, suc, ◌+◌, ◌-◌, ◌<◌, ◌≤◌}
 use mathlib.Core.Path.{◌≡◌, refl, sym, ap, ◌∙◌}
 use mathlib.Core.Bool.{Bool, true, false, cond, not, ◌&&◌}
 use mathlib.Core.List.{List, [], ◌∷◌}
@@ -9,52 +9,38 @@ use native.Mathlib.Numerals.{add-one}
 use borrow.Author.Tests.{eq-eqb, ne_eqb}
 use lib.Dec.{eqb}
 use lib.ListN.{length, get_or, take, drop, drop_of_length-le, length-drop}
-use lib.Seq.{drop-cons, drop-drop, take_all, take-length}
-use Rattle.bytes.specs.Bytes.{index_of, index_after, slice}
+use lib.Seq.{drop-cons, drop-drop, take_all}
 use Rattle.base.specs.Front.{begins}
 use Rattle.base.specs.Same.{same_text}
-use Rattle.base.proofs.Fronts.{and_false}
 use Rattle.phrases_forms.specs.Cuts.{next_word, after_space}
-use Rattle.phrases_forms.specs.Line.{free, run, closed, inner}
+use Rattle.phrases_forms.specs.Line.{free, run}
 
--- the first space of a line
-pub whole : (s : List ℕ) → slice 0 (length s) s ≡ s
-unfolding slice
-whole s = take-length s
+-- the place r of a line's first space, or its length where it has none: no byte before it is a space, and the byte at it is one
+pub first_at : (s : List ℕ) (r : ℕ) → ((k : ℕ) → k < r → get_or s k 0 ≡ 32 → ⊥) → (r < length s → get_or s r 0 ≡ 32) → take r s ≡ next_word s
+unfolding next_word
+first_at [] zero before found = refl
+first_at [] (suc r) before found = refl
+first_at (b ∷ s) zero before found = let e : b ≡ 32 = found (omega arith) in rw (eq-eqb b 32 e) refl
+first_at (b ∷ s) (suc r) before found =
+    let e : b ≡ 32 → ⊥ = before 0 (omega arith) in
+    rw (ne_eqb b 32 e) (ap (λ (l : List ℕ). b ∷ l) (first_at s r (λ k h. before (suc k) (omega arith)) (λ h. found (omega arith))))
 
-pub first_is : (s : List ℕ) → take (index_of 32 s) s ≡ next_word s
-unfolding index_of index_after next_word
-first_is [] = refl
-first_is (b ∷ s) = go (eqb b 32) (first_is s)
-  where
-    go : (t : Bool) → take (index_of 32 s) s ≡ next_word s → take (index_after t (index_of 32 s)) (b ∷ s) ≡ cond t [] (b ∷ next_word s)
-    go true e = refl
-    go false e = ap (λ (l : List ℕ). b ∷ l) e
+-- what is behind it
+rest_is : (s : List ℕ) (r : ℕ) → ((k : ℕ) → k < r → get_or s k 0 ≡ 32 → ⊥) → (r < length s → get_or s r 0 ≡ 32) → drop (suc r) s ≡ after_space s
+unfolding after_space
+rest_is [] r before found = refl
+rest_is (b ∷ s) zero before found = let e : b ≡ 32 = found (omega arith) in rw (eq-eqb b 32 e) refl
+rest_is (b ∷ s) (suc r) before found =
+    let e : b ≡ 32 → ⊥ = before 0 (omega arith) in
+    rw (ne_eqb b 32 e) (rest_is s r (λ k h. before (suc k) (omega arith)) (λ h. found (omega arith)))
 
-pub rest_is : (s : List ℕ) → drop (suc (index_of 32 s)) s ≡ after_space s
-unfolding index_of index_after after_space
-rest_is [] = refl
-rest_is (b ∷ s) = go (eqb b 32) (rest_is s)
-  where
-    go : (t : Bool) → drop (suc (index_of 32 s)) s ≡ after_space s → drop (suc (index_after t (index_of 32 s))) (b ∷ s) ≡ cond t s (after_space s)
-    go true e = refl
-    go false e = e
+pub rest_at : (s : List ℕ) (r : ℕ) → ((k : ℕ) → k < r → get_or s k 0 ≡ 32 → ⊥) → (r < length s → get_or s r 0 ≡ 32) → drop (r + 1) s ≡ after_space s
+rest_at s r before found = rw add-one (rest_is s r before found)
 
--- the place r of the first space, as it was found
-module _ (s : List ℕ) (r : ℕ) (e : r ≡ 0 + index_of 32 (slice 0 (length s) s)) where
-  place : r ≡ index_of 32 s
-  place =
-      let i : index_of 32 (slice 0 (length s) s) ≡ index_of 32 s = ap (index_of 32) (whole s) in
-      omega (arith, e, i)
-
-  pub first_at : take r s ≡ next_word s
-  first_at = ap (λ (n : ℕ). take n s) place ∙ first_is s
-
-  pub rest_at : drop (r + 1) s ≡ after_space s
-  rest_at = rw add-one (ap (λ (n : ℕ). drop (suc n) s) place ∙ rest_is s)
-
-  pub rest_none : length s ≤ r → drop (length s) s ≡ after_space s
-  rest_none h = drop_of_length-le s {i = length s} (omega arith) ∙ sym (drop_of_length-le s {i = r + 1} (omega arith)) ∙ rest_at
+-- nothing is behind a line with no space
+pub rest_none : (s : List ℕ) → ((k : ℕ) → k < length s → get_or s k 0 ≡ 32 → ⊥) → drop (length s) s ≡ after_space s
+rest_none s before =
+    drop_of_length-le s {i = length s} (omega arith) ∙ sym (drop_of_length-le s {i = length s + 1} (omega arith)) ∙ rest_at s (length s) before (λ h. absurd (omega arith))
 
 -- the next word of a line of which t is left behind p
 module _ (s t : List ℕ) (p e n : ℕ) (h : p ≤ length s) (d : drop p s ≡ t) where
@@ -130,12 +116,6 @@ module _ (a b c : Bool) (k p : ℕ) (e : p ≡ cond a 0 (cond b 1 (cond c 2 3)))
       go false false true e = absurd (omega arith)
       go false false false e = omega arith
 
-pub at_most_3 : (a b c : Bool) (p : ℕ) → p ≡ cond a 0 (cond b 1 (cond c 2 3)) → p ≤ 3
-at_most_3 true b c p e = omega arith
-at_most_3 false true c p e = omega arith
-at_most_3 false false true p e = omega arith
-at_most_3 false false false p e = omega arith
-
 -- bytes that are free, place by place
 module _ (s : List ℕ) (i : ℕ) (h : i < length s) (p : free s ≡ free (drop i s)) where
   at : drop i s ≡ get_or s i 0 ∷ drop (suc i) s
@@ -158,18 +138,3 @@ run_none s e = rw e refl
 
 pub run_free : (s : List ℕ) → 0 < length s → run s ≡ free s
 run_free s h = rw (ne_eqb (length s) 0 (λ (e : length s ≡ 0). omega arith)) refl
-
--- a run and its bracket
-pub closed_none : (s : List ℕ) → length s ≡ 0 → false ≡ closed s
-closed_none [] e = refl
-closed_none (b ∷ s) e = absurd (omega arith)
-
-and_true : (b : Bool) → b ≡ (b && true)
-and_true true = refl
-and_true false = refl
-
-pub closed_on : (s : List ℕ) → get_or s (length s - 1) 0 ≡ 41 → run (inner s) ≡ closed s
-closed_on s e = rw (eq-eqb (get_or s (length s - 1) 0) 41 e) (and_true (run (inner s)))
-
-pub closed_off : (s : List ℕ) → (get_or s (length s - 1) 0 ≡ 41 → ⊥) → false ≡ closed s
-closed_off s e = rw (ne_eqb (get_or s (length s - 1) 0) 41 e) (sym (and_false (run (inner s))))

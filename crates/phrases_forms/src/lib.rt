@@ -38,10 +38,11 @@ pub fn cut(s: &[u8]) -> Bounds
     ensures s_value { (take result.end s.now ≡ next_word s.now) × (drop result.next s.now ≡ after_space s.now) }
     ensures end_in_bounds { (result.end ≤ length s.now) × (result.next ≤ length s.now) }
 {
-    let n = s.len();
-    let end = bytes::scan::find(s, 0, n, b' ');
-    if end < n {
-        return Bounds { end, next: end + 1 };
+    for (end, b) in s.iter().enumerate() {
+        if *b == b' ' {
+            return Bounds { end, next: end + 1 };
+        }
     }
-    Bounds { end, next: n }
+    let n = s.len();
+    Bounds { end: n, next: n }
 }

@@ -2,7 +2,7 @@
 -- answer, for a phrase's buffer xs left as ys, that the contract of a call on the tally ts, or of its preview, allows.
 -- Assumes nothing.
 use Prim.Native.Nat.{ℕ, ◌/◌, ◌%◌, ◌≤◌}
-use mathlib.Core.Path.{◌≡◌, refl}
+use mathlib.Core.Path.{◌≡◌, refl, ap}
 use mathlib.Core.Bool.{Bool, true, false, not}
 use mathlib.Core.Logic.{inl, inr}
 use mathlib.Core.List.{List, [], ◌∷◌, ◌++◌}
@@ -10,6 +10,7 @@ use mathlib.Core.Option.{Option, none, some}
 use native.Mathlib.Omega.{arith}
 use Rattle.base.specs.Answer.{wrong_setting, wrong_code, malformed, wrong_sign, too_large, no_room, tally_full, sum_too_large, not_held, number_of, replied}
 use Rattle.base.specs.Buffer.{over}
+use Rattle.base.specs.declared.Measure.{Measure}
 use Rattle.settings.specs.Settings.{ukrainian_ranges}
 use Rattle.settings.specs.declared.Settings.{Settings}
 use Rattle.figures.specs.Refusals.{amount_refusals}
@@ -96,7 +97,7 @@ tally_number_known call ts xs ys r a = rw a.reported (call_is (λ (n : ℕ). n �
 -- every call's number is one of the table, with what 02 adds to it, or 0
 pub every_number_known : (n : ℕ) → NumberOfCall n → n ≤ not_held
 every_number_known n (of_answer r xs ys a) = omega (arith, number_known r xs ys a)
-every_number_known n (of_measure call m e) = rw (e, measured_refusal (spelling_of call).refusal (spelling_of call).phrase) (refusal_is (λ (n : ℕ). n ≤ not_held) (omega arith) (omega arith) (omega arith) (omega arith) (omega arith) (omega arith) call)
+every_number_known n (of_measure call m e) = rw (ap (λ (m : Measure). m.refusal) e, measured_refusal (spelling_of call).refusal (spelling_of call).phrase) (refusal_is (λ (n : ℕ). n ≤ not_held) (omega arith) (omega arith) (omega arith) (omega arith) (omega arith) (omega arith) call)
 every_number_known n (of_tally call ts r xs ys a) = tally_number_known call ts xs ys r a
 
 -- on a tally that calls made, "8 is checked before 9; all three follow 5 and precede 7": adding gives these

@@ -11,7 +11,7 @@ use Rattle.fr_calls.proofs.cardinal_measure.Statement.{statement}
 use Rattle.fr_calls.proofs.cardinal_measure.Tie as tie
 
 -- the text's groups
-grouped : (c : tie.After-count) → Held 34 (unsigned c.before.before.before.before.before.before.args.text.now) c.before.groups34-gs.result c.count-orders.result
+grouped : (c : tie.After-count-orders) → Held 34 (unsigned c.before.before.before.before.before.before.args.text.now) c.before.groups34-gs.result c.count-orders.result
 grouped c =
     let s = c.before.before.before.before.before.before in
     held_text 34 s.args.text.now _ _ _ s.requires.1 s.requires.2 c.before.before.after_sign-digits.ensures c.before.groups34-gs.ensures c.count-orders.ensures

@@ -14,7 +14,7 @@ use Rattle.fr_calls.proofs.measure_cardinal.Statement.{statement}
 use Rattle.fr_calls.proofs.measure_cardinal.Tie as tie
 
 -- nothing is refused
-none : (c : tie.Then1) → let a = c.before.before.before.args in Unrefused (french_ranges (french_settings a.feminine a.reformed a.region)) (cardinal_refusals 102 a.text.now)
+none : (c : tie.Then-n-eq0) → let a = c.before.before.before.args in Unrefused (french_ranges (french_settings a.feminine a.reformed a.region)) (cardinal_refusals 102 a.text.now)
 none c = unrefused (sym c.before.refuse_cardinal-n.ensures ∙ c.if-n-eq0.true)
 
 cardinal-measure-requires : tie.Need-cardinal_measure-requires

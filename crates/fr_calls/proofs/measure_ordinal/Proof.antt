@@ -13,7 +13,7 @@ use Rattle.fr_calls.proofs.measure_ordinal.Statement.{statement}
 use Rattle.fr_calls.proofs.measure_ordinal.Tie as tie
 
 -- nothing is refused
-none : (c : tie.Then1) → let a = c.before.before.before.args in Unrefused (french_ranges (french_settings a.feminine a.reformed a.region)) (ordinal_refusals 102 a.text.now)
+none : (c : tie.Then-n-eq0) → let a = c.before.before.before.args in Unrefused (french_ranges (french_settings a.feminine a.reformed a.region)) (ordinal_refusals 102 a.text.now)
 none c = unrefused (sym c.before.refuse_ordinal-n.ensures ∙ c.if-n-eq0.true)
 
 ordinal-measure-requires : tie.Need-ordinal_measure-requires

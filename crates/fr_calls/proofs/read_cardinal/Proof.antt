@@ -20,4 +20,4 @@ read_cardinal_spec =
     (λ c. sym c.before.read_cardinal-read.ensures.1.0)
     (λ c κs. let p = c.before.before.read_cardinal-read.ensures in ((p.1.1, p.2), (omega (arith, p.1.0), omega (arith, p.1.0))))
     (λ c. search rules)
-    (λ c. let a = c.before.before.before.before.before.before.before.before.before.args in read_right (Says (french a.settings)) _ c.before.before.before.before.before.before.before.before.before.requires a.said.now _ a.out-1.now _ _ (bounded_cardinal a.settings a.said.now) _ c.before.before.before.before.before.read_cardinal-read.ensures.0 c.before.before.put_read.ensures))
+    (λ c. let a = c.before.before.before.before.before.before.before.before.before.args in read_right (Says (french a.settings)) _ c.before.before.before.before.before.before.before.before.before.requires a.said.now _ a.out.now _ _ (bounded_cardinal a.settings a.said.now) _ c.before.before.before.before.before.read_cardinal-read.ensures.0 c.before.before.put_read.ensures))

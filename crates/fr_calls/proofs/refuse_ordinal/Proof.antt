@@ -9,5 +9,5 @@ pub refuse_ordinal_spec : {M : Type 1} → statement M
 refuse_ordinal_spec =
     tie.close
     (tie.spec (λ c κs. search rules) (λ c κs. search rules) (λ c κs. search rules)
-    (λ c. rw (sym c.before.before.before.is_french.ensures ∙ c.before.before.if-is_french.true) (c.number_of_lem.ensures ∙ search rules))
+    (λ c. rw (sym c.before.before.before.is_french.ensures ∙ c.before.before.if-is_french.true) (c.number_of.ensures ∙ search rules))
     (λ c. rw (sym c.before.is_french.ensures ∙ c.if-is_french.false) refl))

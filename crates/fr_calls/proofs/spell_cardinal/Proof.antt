@@ -16,12 +16,12 @@ use Rattle.fr_calls.proofs.spell_cardinal.Statement.{statement}
 use Rattle.fr_calls.proofs.spell_cardinal.Tie as tie
 
 -- the text's groups
-grouped : (c : tie.After-count) → Held 34 (unsigned c.before.before.before.before.before.before.before.args.text.now) c.before.groups34-gs.result c.count-orders.result
+grouped : (c : tie.After-count-orders) → Held 34 (unsigned c.before.before.before.before.before.before.before.args.text.now) c.before.groups34-gs.result c.count-orders.result
 grouped c =
     let s = c.before.before.before.before.before.before.before in
     held_text 34 s.args.text.now _ _ _ s.requires.1 s.requires.2 c.before.before.after_sign-digits.ensures c.before.groups34-gs.ensures c.count-orders.ensures
 
-phrase_is : (c : tie.After-plan-cardinal) → let a = c.before.before.before.before.before.before.before.before.before.before.args in phrase_of (says fr_pool c.plan_cardinal-n.new.1.1.1.1.1.0 c.plan_cardinal-n.result) ≡ (fr_to_cardinal a.settings a.text.now).phrase
+phrase_is : (c : tie.After-plan_cardinal-n) → let a = c.before.before.before.before.before.before.before.before.before.before.args in phrase_of (says fr_pool c.plan_cardinal-n.new.plan c.plan_cardinal-n.result) ≡ (fr_to_cardinal a.settings a.text.now).phrase
 phrase_is c = c.plan_cardinal-n.ensures.1 ∙ rw (c.before.before.before.before.before.before.is_negative-minus.ensures, (grouped c.before.before.before).number) refl
 
 plan-cardinal-requires : tie.Need-plan_cardinal-n-requires

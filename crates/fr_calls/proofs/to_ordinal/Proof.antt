@@ -15,7 +15,7 @@ use Rattle.fr_calls.proofs.to_ordinal.Statement.{statement}
 use Rattle.fr_calls.proofs.to_ordinal.Tie as tie
 
 -- nothing is refused
-none : (c : tie.Then1) → let a = c.before.before.before.before.args in Unrefused (french_ranges (french_settings a.feminine a.reformed a.region)) (ordinal_refusals 102 a.text.now)
+none : (c : tie.Then-n-eq0) → let a = c.before.before.before.before.args in Unrefused (french_ranges (french_settings a.feminine a.reformed a.region)) (ordinal_refusals 102 a.text.now)
 none c = unrefused (sym c.before.refuse_ordinal-n.ensures ∙ c.if-n-eq0.true)
 
 spell-ordinal-requires : tie.Need-spell_ordinal-requires
@@ -30,7 +30,7 @@ returns c =
     let s = c.before.before.spell_ordinal.ensures in
     let a = c.before.before.before.before.before.before.before.before.before.args in
     let p = fr_to_ordinal (french_settings a.feminine a.reformed a.region) a.text.now in
-    (said _ a.out-1.now _ p.phrase p.refusal (sym c.before.before.before.before.before.before.refuse_ordinal-n.ensures ∙ c.before.before.before.before.before.if-n-eq0.true) (rw c.before.before.before.before.french.ensures at s.0), s.1)
+    (said _ a.out.now _ p.phrase p.refusal (sym c.before.before.before.before.before.before.refuse_ordinal-n.ensures ∙ c.before.before.before.before.before.if-n-eq0.true) (rw c.before.before.before.before.french.ensures at s.0), s.1)
 
 returns-2 : tie.Need-returns-else-n-eq0
 returns-2 c = (refused_as _ c.before.before.before.before.before.args.out.now _ _ _ c.refused.ensures c.before.before.refuse_ordinal-n.ensures c.before.if-n-eq0.false, omega (arith, c.refused.ensures.1))

@@ -37,27 +37,27 @@ plan-words-requires c κs =
     ((p.1, p.3.zeros, omega (arith, p.2.0, p.3.fits), omega (arith, p.4)), (p.2, c.before.is-2.ensures))
 
 -- the cardinal's plan has a last word
-some : (c : tie.After-plan-words) → 0 < c.plan_words-count.result
+some : (c : tie.After-plan_words-count) → 0 < c.plan_words-count.result
 some c =
     let s = c.before.before.before.before.before.before.before.before in
     let gs = s.args.gs.now in
     some_codes c.plan_words-count.ensures (spaced_some (french_joiner s.args.settings) (cardinal_words (french s.args.settings) false (total gs)) (some_words s.args.settings (total gs) (groups_hold gs s.requires.2)))
 
-within : (c : tie.After-plan-words) → c.plan_words-count.result ≤ length c.plan_words-count.new.1.1.1.1.1.0
+within : (c : tie.After-plan_words-count) → c.plan_words-count.result ≤ length c.plan_words-count.new.plan
 within c = omega (arith, c.plan_words-count.ensures.near, c.plan_words-count.ensures.same, c.before.before.before.before.before.before.before.before.requires.4)
 
-known : (c : tie.After-plan-words) → Known (get_or c.plan_words-count.new.1.1.1.1.1.0 (c.plan_words-count.result - 1) 0 / 256)
+known : (c : tie.After-plan_words-count) → Known (get_or c.plan_words-count.new.plan (c.plan_words-count.result - 1) 0 / 256)
 known c = last_known c.plan_words-count.ensures (some c) (within c)
 
 returns-2 : tie.Need-returns
 unfolding cardinal_phrase french
 returns-2 c =
-    let s = c.before.before.before.before.before.before.before.before.before.before.before.before.before.before in
-    let d = c.before.before.before.before.before.before in
+    let s = c.before.before.before.before.before.before.before.before.before.before.before.before.before.before.before in
+    let d = c.before.before.before.before.before.before.before in
     let t = d.plan_words-count.ensures in
     let gs = s.args.gs.now in
     let S = s.args.settings in
-    let o : eqb (total gs) 1 ≡ false = sym c.before.before.before.before.before.before.before.before.before.before.before.is.ensures ∙ c.before.before.before.before.before.before.before.before.before.before.if-is.false in
+    let o : eqb (total gs) 1 ≡ false = sym c.before.before.before.before.before.before.before.before.before.before.before.before.is.ensures ∙ c.before.before.before.before.before.before.before.before.before.before.before.if-is.false in
     let m = whole_phrase (french_joiner S) (cardinal_words (french S) false (total gs)) t in (
       omega (arith, t.near, c.before.before.say-a.ensures.next, c.say.ensures.next, some d),
       ended t (some d) (within d) c.before.before.say-a.ensures c.say.ensures c.before.before.before.before.stem-place.ensures.0 c.before.before.before.before.stem-place.ensures.1 ième.says
@@ -76,9 +76,9 @@ plan_ordinal_spec =
     plan-words-requires
     (λ c. omega (arith, some c))
     (λ c. search rules)
-    (λ c. omega (arith, within c, some c))
-    (λ c. record { fits = known_fits _ (known c.before) })
-    (λ c κs. (c.before.before.before.before.before.before.before.before.before.requires.0, known c.before))
+    (λ c. omega (arith, within c.before, some c.before))
+    (λ c. record { fits = known_fits _ (known c.before.before) })
+    (λ c κs. (c.before.before.before.before.before.before.before.before.before.before.requires.0, known c.before.before))
     (λ c. search rules)
     (λ c κs. search rules)
     (λ c κs. search rules)

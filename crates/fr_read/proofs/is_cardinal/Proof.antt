@@ -10,7 +10,7 @@ use Rattle.fr_read.proofs.Cases.{plan_stands}
 use Rattle.fr_read.proofs.is_cardinal.Statement.{statement}
 use Rattle.fr_read.proofs.is_cardinal.Tie as tie
 
-within : (c : tie.After-plan-cardinal) → c.plan_cardinal-k.result ≤ length c.plan_cardinal-k.new.1.1.1.1.1.0
+within : (c : tie.After-plan_cardinal-k) → c.plan_cardinal-k.result ≤ length c.plan_cardinal-k.new.plan
 within c = omega (arith, c.plan_cardinal-k.ensures.0, c.plan_cardinal-k.ensures.2)
 
 pub is_cardinal_spec : {M : Type 1} → statement M

@@ -10,7 +10,7 @@ use Rattle.fr_read.proofs.Cases.{plan_stands}
 use Rattle.fr_read.proofs.is_ordinal.Statement.{statement}
 use Rattle.fr_read.proofs.is_ordinal.Tie as tie
 
-within : (c : tie.After-plan-ordinal) → c.plan_ordinal-k.result ≤ length c.plan_ordinal-k.new.1.1.1.1.0
+within : (c : tie.After-plan_ordinal-k) → c.plan_ordinal-k.result ≤ length c.plan_ordinal-k.new.plan
 within c = omega (arith, c.plan_ordinal-k.ensures.0, c.plan_ordinal-k.ensures.2)
 
 pub is_ordinal_spec : {M : Type 1} → statement M

@@ -21,7 +21,7 @@ abbrev decreases-loop : tie.decreases-loop-at
 decreases-loop s from c₀ at₀ c at = length s - at
 
 -- the word at hand
-module _ (c : tie.After-word invariant-loop decreases-loop) where
+module _ (c : tie.After-word-w invariant-loop decreases-loop) where
   abbrev phrase : List ℕ
   phrase = c.before.before.before.before.args.s.now
 
@@ -40,7 +40,7 @@ module _ (c : tie.After-word invariant-loop decreases-loop) where
   on : 0 < w.next
   on = on_far phrase at w c.word-w.ensures more
 
-word : (c : tie.After-meaning invariant-loop decreases-loop) → meanings (drop (at c.before) (phrase c.before)) ≡ c.meaning-m.result ∷ meanings (drop (at c.before + (w c.before).next) (phrase c.before))
+word : (c : tie.After-meaning-m invariant-loop decreases-loop) → meanings (drop (at c.before) (phrase c.before)) ≡ c.meaning-m.result ∷ meanings (drop (at c.before + (w c.before).next) (phrase c.before))
 word c = rw c.meaning-m.ensures (word_means (phrase c.before) (at c.before) (w c.before) c.before.word-w.ensures (more c.before))
 
 returns : tie.Need-returns-then-m-ge-HUNDRED invariant-loop decreases-loop

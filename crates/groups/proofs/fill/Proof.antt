@@ -29,7 +29,7 @@ loop-holds c =
     (omega arith, refl, ap value (take-length s) ∙ sym (div-one (value s)), refl)
 
 -- no more than the groups that out holds are asked
-full : (c : tie.At-loop invariant-loop decreases-loop) → length c.before.before.before.args.out.now ≤ c.loop-e.o →
+full : (c : tie.At-loop-e invariant-loop decreases-loop) → length c.before.before.before.args.out.now ≤ c.loop-e.o →
     c.loop-e.out ≡ groups_of (length c.before.before.before.args.out.now) (value c.before.before.before.args.s.now)
 full c h =
     let a = c.before.before.before.args in

@@ -25,10 +25,10 @@ abbrev decreases-loop : tie.decreases-loop-rest
 decreases-loop n out₀ rest₀ o₀ out rest o = rest
 
 -- in the loop there is one more order
-more : (c : tie.In-loop invariant-loop decreases-loop) → (i : ℕ) → i < c.before.loop-rest.o + 1 → c.before.before.args.n / 1000 ^ i ≡ 0 → ⊥
+more : (c : tie.In-loop-rest invariant-loop decreases-loop) → (i : ℕ) → i < c.before.loop-rest.o + 1 → c.before.before.args.n / 1000 ^ i ≡ 0 → ⊥
 more c = let b = c.before.loop-rest in below_more _ _ b.invariant.3 (λ e. c.loop-rest-test.true (b.invariant.1 ∙ e))
 
-room : (c : tie.In-loop invariant-loop decreases-loop) → c.before.loop-rest.o + 1 ≤ 7
+room : (c : tie.In-loop-rest invariant-loop decreases-loop) → c.before.loop-rest.o + 1 ≤ 7
 room c = few_orders c.before.before.args.n (c.before.loop-rest.o + 1) (more c) 7 (omega arith)
 
 loop-holds : tie.Need-loop-rest-init invariant-loop decreases-loop

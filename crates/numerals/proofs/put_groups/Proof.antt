@@ -53,8 +53,8 @@ loop-again c =
     let t : high ++ fixed 3 (get_or gs o 0) ≡ fixed (i + 3) (n / 1000 ^ o) =
     ap (λ (m : ℕ). fixed i (n / 1000 ^ m) ++ fixed 3 (get_or gs o 0)) e ∙ rw x (fixed_low i n o) in (
       omega arith,
-      same_len_mid i (length b.loop-left.out - i) b.loop-left.out p.new.1.1.0 p.auto.1.1.0 ∙ b.loop-left.invariant.1,
-      wrote i s.args.out.now high (fixed 3 (get_or gs o 0)) b.loop-left.out p.new.1.1.0 (sym (fixed_length i (n / 1000 ^ b.loop-left.left))) b.loop-left.invariant.2 p.ensures ∙
+      same_len_mid i (length b.loop-left.out - i) b.loop-left.out p.new.out p.auto.out ∙ b.loop-left.invariant.1,
+      wrote i s.args.out.now high (fixed 3 (get_or gs o 0)) b.loop-left.out p.new.out (sym (fixed_length i (n / 1000 ^ b.loop-left.left))) b.loop-left.invariant.2 p.ensures ∙
           ap (over s.args.out.now) t,
     )
 
@@ -81,7 +81,7 @@ put_groups_spec =
     (λ c. search rules)
     (λ c. search rules)
     put-digits-requires
-    (λ c. omega (arith, c.before.before.before.before.before.before.before.before.before.well-formed))
+    (λ c. omega (arith, c.before.before.before.before.before.before.before.before.before.well_formed))
     (λ c. search rules)
     loop-again
     (λ c. search rules)

@@ -13,13 +13,13 @@ returns : tie.Need-returns-then-out-w
 returns c =
     let b = c.before in
     let a = b.before.before.before.args in
-    answer_no _ a.out-1.now a.out-1.now (signed_decimal a.minus (total a.g.now)) b.number_size-w.ensures.0 refl (omega arith) refl
+    answer_no _ a.out.now a.out.now (signed_decimal a.minus (total a.g.now)) b.number_size-w.ensures.0 refl (omega arith) refl
 
 returns-2 : tie.Need-returns
 returns-2 c =
     let b = c.before.before.before.before.before in
     let a = b.before.before.before.args in
-    answer_yes _ a.out-1.now _ (signed_decimal a.minus (total a.g.now)) b.number_size-w.ensures.0 refl (omega arith) c.before.before.put_signed.ensures
+    answer_yes _ a.out.now _ (signed_decimal a.minus (total a.g.now)) b.number_size-w.ensures.0 refl (omega arith) c.before.before.put_signed.ensures
 
 pub put_number_spec : {M : Type 1} → statement M
 put_number_spec =

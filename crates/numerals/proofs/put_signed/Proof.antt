@@ -16,7 +16,7 @@ use Rattle.numerals.proofs.put_signed.Statement.{statement}
 use Rattle.numerals.proofs.put_signed.Tie as tie
 
 -- with '-', w is one more than the length of the text
-module _ (c : tie.Then1) where
+module _ (c : tie.Then-minus) where
   minus : c.before.before.before.args.w ≡ suc (length (decimal (total c.before.before.before.args.g.now)))
   minus =
       let s = c.before.before.before in
@@ -41,7 +41,7 @@ same_length : tie.Need-shape_of-out-then-minus
 same_length c =
     let xs = c.before.before.before.before.before.before.before.args.out.now in
     let p = c.before.before.put_text in
-    same_len_mid 1 (length (set xs 0 45) - 1) (set xs 0 45) p.new.1.0 p.auto.1.0 ∙ length-set xs 0 45
+    same_len_mid 1 (length (set xs 0 45) - 1) (set xs 0 45) p.new.out p.auto.out ∙ length-set xs 0 45
 
 returns : tie.Need-returns-then-minus
 returns c =
@@ -50,7 +50,7 @@ returns c =
     let xs = s.args.out.now in
     let n : ℕ = total s.args.g.now in
     let p = c.before.before.put_text in
-    wrote 1 xs (45 ∷ []) (decimal n) (set xs 0 45) p.new.1.0 refl (put_all xs (45 ∷ []) (room b)) p.ensures ∙
+    wrote 1 xs (45 ∷ []) (decimal n) (set xs 0 45) p.new.out refl (put_all xs (45 ∷ []) (room b)) p.ensures ∙
     sym (ap (over xs) (sign_yes s.args.minus n b.if-minus.true))
 
 returns-2 : tie.Need-returns-else-minus

@@ -33,7 +33,7 @@ put-groups-requires : tie.Need-put_groups-requires
 put-groups-requires c κs =
     let s = c.before.before.before.before.before.before.before.before in
     let h = highest s in
-    (s.requires.0, (omega (arith, h.1), simp (length-take, length-drop) (omega (arith, h.0, s.requires.1.1, c.before.before.before.put_digits.auto.1.1.0))))
+    (s.requires.0, (omega (arith, h.1), simp (length-take, length-drop) (omega (arith, h.0, s.requires.1.1, c.before.before.before.put_digits.auto.out))))
 
 returns : tie.Need-returns
 returns c =
@@ -49,7 +49,7 @@ returns c =
     let e : i + o * 3 ≡ length (decimal n) = omega (arith, h.0, s.requires.1.1) in
     let t : fixed i (get_or gs o 0) ++ fixed (o * 3) n ≡ decimal n =
     rw x (fixed_high i o n (omega (arith, h.0))) ∙ ap (λ (k : ℕ). fixed k n) e ∙ sym (text_fixed n) in
-    wrote i s.args.out.now (fixed i (get_or gs o 0)) (fixed (o * 3) n) d.new.1.1.0 c.before.before.put_groups.new.1.1.0 (sym (fixed_length i (get_or gs o 0)))
+    wrote i s.args.out.now (fixed i (get_or gs o 0)) (fixed (o * 3) n) d.new.out c.before.before.put_groups.new.out (sym (fixed_length i (get_or gs o 0)))
     d.ensures c.before.before.put_groups.ensures ∙
     ap (over s.args.out.now) t
 

@@ -11,6 +11,6 @@ settle_spec =
     tie.close
     (tie.spec
     (λ c. search rules) (λ c κs. search rules) (λ c. search rules) (λ c κs. search rules) (λ c. search rules) (λ c κs. search rules)
-    (λ c. search rules) (λ c. rw c.before.before.before.before.enum_told.given.1 c.before.before.settle.ensures)
-    (λ c. search rules) (λ c. rw c.before.before.before.before.enum-told2.given.1 c.before.before.settle2.ensures)
-    (λ c. search rules) (λ c. rw c.before.before.before.before.enum-told3.given.1 c.before.before.bad.ensures))
+    (λ c. search rules) (λ c. rw c.before.before.before.before.enum_told-1.given.1 c.before.before.settle.ensures)
+    (λ c. search rules) (λ c. rw c.before.before.before.before.enum_told-in-French-1.given.1 c.before.before.settle-in-French.ensures)
+    (λ c. search rules) (λ c. rw c.before.before.before.before.enum_told-in-Neither-1.given.1 c.before.before.bad.ensures))

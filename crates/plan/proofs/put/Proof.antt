@@ -23,16 +23,16 @@ put_spec =
     (λ c. search rules)
     (λ c. search rules)
     (λ c. let s = c.before.before.before.before.before.before.before.before.before.before in let room = room_phrase s.args.pool.now s.args.plan.now _ c.before.before.before.before.before.before.if-plan-eq0.false s.requires in let p = c.before.before.before.put-k in
-    omega (arith, p.ensures.0, p.auto.1.1.0))
+    omega (arith, p.ensures.0, p.auto.out))
     (λ c. let s = c.before.before.before.before.before.before.before.before.before.before in let room = room_phrase s.args.pool.now s.args.plan.now _ c.before.before.before.before.before.before.if-plan-eq0.false s.requires in let p = c.before.before.before.put-k in
-    omega (arith, p.ensures.0, p.auto.1.1.0))
+    omega (arith, p.ensures.0, p.auto.out))
     (λ c. let s = c.before.before.before.before.before.before.before.before.before.before in let room = room_phrase s.args.pool.now s.args.plan.now _ c.before.before.before.before.before.before.if-plan-eq0.false s.requires in let p = c.before.before.before.put-k in
-    omega (arith, p.ensures.0, p.auto.1.1.0))
+    omega (arith, p.ensures.0, p.auto.out))
     (λ c κs. let s = c.before.before.before.before.before.before.before.before.before.before.before in let room = room_phrase s.args.pool.now s.args.plan.now _ c.before.before.before.before.before.before.before.if-plan-eq0.false s.requires in let p = c.before.before.before.before.put-k in
-    omega (arith, p.ensures.0, p.auto.1.1.0, from_length 1 s.args.plan.now, from_length p.result p.new.1.1.0))
+    omega (arith, p.ensures.0, p.auto.out, from_length 1 s.args.plan.now, from_length p.result p.new.out))
     (λ c. let s = c.before.before.before.before.before.before.before.before.before.before.before.before.before.before in let room = room_phrase s.args.pool.now s.args.plan.now _ c.before.before.before.before.before.before.before.before.before.before.if-plan-eq0.false s.requires in let p = c.before.before.before.before.before.before.before.put-k in
-    omega (arith, p.ensures.0, c.before.before.put_following-n.ensures.0, s.well-formed.1.1.0.0))
-    (λ c. c.before.out-2-1.given.1 ∙ c.before.before.before.before.before.before.before.put-k.auto.1.1.0)
+    omega (arith, p.ensures.0, c.before.before.put_following-n.ensures.0, s.well_formed.1.1.0.0))
+    (λ c. c.before.out-2-1.given.1 ∙ c.before.before.before.before.before.before.before.put-k.auto.out)
     (λ c.
     let s = c.before.before.before.before.before.before.before.before.before.before.before.before.before.before in
     let p = c.before.before.before.before.before.before.before.put-k in
@@ -41,5 +41,5 @@ put_spec =
     let b = following (pieces s.args.pool.now (from 1 s.args.plan.now)) in
     rw (first_phrase s.args.pool.now s.args.plan.now c.before.before.before.before.before.before.before.before.before.before.if-plan-eq0.false) (
       ap₂ ◌+◌ p.ensures.0 q.ensures.0 ∙ sym (length-append a b),
-      wrote p.result s.args.out.now a b p.new.1.1.0 q.new.1.1.0 p.ensures.0 p.ensures.1 q.ensures.1,
+      wrote p.result s.args.out.now a b p.new.out q.new.out p.ensures.0 p.ensures.1 q.ensures.1,
     )))

@@ -21,7 +21,7 @@ abbrev decreases-loop : tie.decreases-loop-i
 decreases-loop pool plan out₀ k₀ i₀ out k i = length plan - i
 
 -- room for the next piece after those written
-room : (c : tie.In-loop invariant-loop decreases-loop)
+room : (c : tie.In-loop-i invariant-loop decreases-loop)
     → c.before.loop-i.k + length (following (piece_of c.before.before.before.before.before.args.pool.now (get_or c.before.before.before.before.before.args.plan.now c.before.loop-i.i 0) ∷ [])) ≤ length c.before.loop-i.out
 room c =
     let at = c.before in
@@ -42,7 +42,7 @@ loop-again c =
       (
         rw (next pool plan at.loop-i.i taken, length-append) (omega (arith, inv.1.0, p.ensures.0)),
         (
-          rw (next pool plan at.loop-i.i taken) (wrote at.loop-i.k s.args.out.now (upto pool at.loop-i.i plan) b at.loop-i.out p.new.1.1.0 inv.1.0 inv.1.1.0 p.ensures.1),
+          rw (next pool plan at.loop-i.i taken) (wrote at.loop-i.k s.args.out.now (upto pool at.loop-i.i plan) b at.loop-i.out p.new.out inv.1.0 inv.1.1.0 p.ensures.1),
           (c.before.out-1.given.1 ∙ inv.1.1.1.0, inv.1.1.1.1),
         ),
       ),

@@ -12,7 +12,7 @@ use Rattle.plan.proofs.put_piece.Statement.{statement}
 use Rattle.plan.proofs.put_piece.Tie as tie
 
 -- after a separator there is room for it and the word
-room : (c : tie.Else1) → suc (length (part c.before.before.before.args.pool.now (c.before.before.before.args.code / 256))) ≤ length c.before.before.before.args.out.now
+room : (c : tie.Else-separator-eq0) → suc (length (part c.before.before.before.args.pool.now (c.before.before.before.args.code / 256))) ≤ length c.before.before.before.args.out.now
 room c = rw (spaced c.before.before.before.args.pool.now c.before.before.before.args.code c.if-separator-eq0.false) at c.before.before.before.requires
 
 pub put_piece_spec : {M : Type 1} → statement M
@@ -28,9 +28,9 @@ put_piece_spec =
     (λ c. simp length-set (omega (arith, room c)))
     (λ c. search rules)
     (λ c κs. let a = c.before.before.before.before.args in
-    omega (arith, room c.before, from_length 1 (set a.out-1.now 0 (a.code % 256)), length-set a.out-1.now 0 (a.code % 256)))
+    omega (arith, room c.before, from_length 1 (set a.out.now 0 (a.code % 256)), length-set a.out.now 0 (a.code % 256)))
     (λ c. omega (arith, room c.before.before.before.before, c.before.before.put-n.ensures.0))
-    (λ c. let a = c.before.before.before.before.before.before.before.args in c.before.out-2-1.given.1 ∙ length-set a.out-1.now 0 (a.code % 256))
+    (λ c. let a = c.before.before.before.before.before.before.before.args in c.before.out-2-1.given.1 ∙ length-set a.out.now 0 (a.code % 256))
     (λ c.
     let s = c.before.before.before.before.before.before.before in
     rw (spaced s.args.pool.now s.args.code c.before.before.before.before.if-separator-eq0.false) (

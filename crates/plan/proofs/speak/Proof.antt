@@ -14,18 +14,18 @@ use Rattle.plan.proofs.speak.Tie as tie
 put-requires : tie.Need-put-length-requires
 unfolding says
 put-requires c κs =
-    let s = c.before.before.before.before.before.before in
-    omega (arith, says_short s.args.pool.now s.args.plan.now s.args.n s.requires.0, c.before.before.if-out-n.false)
+    let s = c.before.before.before.before.before in
+    omega (arith, says_short s.args.pool.now s.args.plan.now s.args.n s.requires.0, c.before.if-out-n.false)
 
 returns-2 : tie.Need-returns
 unfolding says
 returns-2 c =
-    let s = c.before.before.before.before.before.before.before.before.before in
+    let s = c.before.before.before.before.before.before.before.before in
     let a = s.args in
     let p = c.before.before.put-length in
     let short = says_short a.pool.now a.plan.now a.n s.requires.0 in
-    let left = c.before.before.before.before.before.if-out-n.false in
-    (written a.out-1.now (phrase_of (says a.pool.now a.plan.now a.n)) p.result p.ensures.0 _ (omega (arith, p.ensures.0)) p.ensures.1, omega (arith, p.ensures.0))
+    let left = c.before.before.before.before.if-out-n.false in
+    (written a.out.now (phrase_of (says a.pool.now a.plan.now a.n)) p.result p.ensures.0 _ (omega (arith, p.ensures.0)) p.ensures.1, omega (arith, p.ensures.0))
 
 pub speak_spec : {M : Type 1} → statement M
 speak_spec =
@@ -35,7 +35,7 @@ speak_spec =
     (λ c κs. search rules)
     (λ c. search rules)
     (λ c. search rules)
-    (λ c. let s = c.before.before.before.before.before in sym (length-take-le s.args.n s.args.plan.now s.requires.0))
+    (λ c. let s = c.before.before.before.before in sym (length-take-le s.args.n s.args.plan.now s.requires.0))
     put-requires
     (λ c. search rules)
     returns-2)

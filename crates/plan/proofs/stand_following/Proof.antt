@@ -18,7 +18,7 @@ abbrev decreases-loop : tie.decreases-loop-i
 decreases-loop pool plan s k₀ i₀ k i = length plan - i
 
 -- the bytes passed with the piece at i lie within s
-within : (c : tie.Else1 invariant-loop decreases-loop) → c.before.before.before.before.before.loop-i.k + (c.before.pass_piece-n.result - 1) ≤ length c.before.before.before.before.before.before.before.before.before.args.s.now
+within : (c : tie.Else-n-eq0 invariant-loop decreases-loop) → c.before.before.before.before.before.loop-i.k + (c.before.pass_piece-n.result - 1) ≤ length c.before.before.before.before.before.before.before.before.before.args.s.now
 within c = stands_within c.before.before.before.before.before.before.before.before.before.args.pool.now c.before.before.before.before.before.before.before.before.before.args.plan.now c.before.before.before.before.before.before.before.before.before.args.s.now c.before.before.before.before.before.loop-i.i c.before.before.before.before.before.loop-i.k c.before.before.before.before.loop-i-test.true _ c.before.pass_piece-n.ensures c.if-n-eq0.false c.before.before.before.before.before.loop-i.invariant.1.0
 
 pub stand_following_spec : {M : Type 1} → statement M

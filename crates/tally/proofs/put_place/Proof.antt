@@ -17,8 +17,8 @@ returns c =
     let a = c.before.before.before.before.before.before.before.before.before.before.before.before.before.before.before.args in
     let i : List ℕ = low_bytes 4 a.place.item in
     let w : List ℕ = low_bytes 8 a.place.whole in
-    wrote 12 a.out-1.now (i ++ w) (low_bytes 1 a.place.hundredths) _ r.new.1.1.0 refl
-    (wrote 4 a.out-1.now i w p.new.1.1.0 q.new.1.1.0 refl p.ensures q.ensures) r.ensures
+    wrote 12 a.out.now (i ++ w) (low_bytes 1 a.place.hundredths) _ r.new.out refl
+    (wrote 4 a.out.now i w p.new.out q.new.out refl p.ensures q.ensures) r.ensures
 
 pub put_place_spec : {M : Type 1} → statement M
 put_place_spec =

@@ -22,12 +22,12 @@ returns c =
     let b = c.before.before.before.before.before.before.before.before in
     let s = b.before in
     let a = s.args in
-    let xs : List ℕ = a.tally-1.now in
+    let xs : List ℕ = a.tally.now in
     let bytes : Bytes xs = λ i. omega (arith, b.slice_known-1.given i) in
     let o : xs ≡ over xs (get_or xs 0 0 ∷ []) = drop-cons xs 0 0 (omega (arith, s.requires.1)) in
     let n = before_length xs a.given a.i s.requires.1 s.requires.0 in
-    wrote (5 + a.i * 13) xs (before xs a.given a.i) (place_bytes a.place) _ q.new.1.0 (sym n)
-    (wrote 1 xs (get_or xs 0 0 ∷ []) (low_bytes 4 a.given) xs p.new.1.1.0 refl o p.ensures ∙ before_over xs a.given a.i s.requires.1 s.requires.0) q.ensures ∙
+    wrote (5 + a.i * 13) xs (before xs a.given a.i) (place_bytes a.place) _ q.new.out (sym n)
+    (wrote 1 xs (get_or xs 0 0 ∷ []) (low_bytes 4 a.given) xs p.new.out refl o p.ensures ∙ before_over xs a.given a.i s.requires.1 s.requires.0) q.ensures ∙
     stored xs a.given a.i s.requires.1 s.requires.0 a.place bytes
 
 pub store_spec : {M : Type 1} → statement M

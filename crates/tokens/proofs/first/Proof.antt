@@ -20,7 +20,7 @@ abbrev decreases-loop : tie.decreases-loop-i
 decreases-loop s n eights k₀ i₀ k i = eights - i
 
 -- a turn has eight bytes, and each is a byte
-module _ (c : tie.In-loop invariant-loop decreases-loop) where
+module _ (c : tie.In-loop-i invariant-loop decreases-loop) where
   abbrev text : List ℕ
   text = c.before.before.before.args.s.now
 
@@ -31,7 +31,7 @@ module _ (c : tie.In-loop invariant-loop decreases-loop) where
   bytes i = omega (arith, c.before.before.shared_slice_known-1.given i)
 
 -- one of them is a gap
-module _ (c : tie.Then1 invariant-loop decreases-loop) where
+module _ (c : tie.Then-low-ne0 invariant-loop decreases-loop) where
   ends : Ends c.before.before.get8-w.result
   ends e = c.if-low-ne0.true (c.before.low.ensures ∙ e)
 

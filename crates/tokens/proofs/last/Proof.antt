@@ -24,7 +24,7 @@ room c =
     rw l.invariant.3 (num_room a.args.s.now l.j (λ i. omega (arith, c.before.before.before.before.shared_slice_known-1.given i)) (omega (arith, a.requires.1, l.invariant.1)))
 
 -- the bytes from i on, once all are taken
-module _ (c : tie.After-loop invariant-loop decreases-loop) where
+module _ (c : tie.After-loop-j invariant-loop decreases-loop) where
   abbrev start : tie.Start invariant-loop decreases-loop
   start = c.before.before.before
 
@@ -49,7 +49,7 @@ last_spec =
     let e : l.j - 1 + 1 ≡ l.j = omega (arith, t) in
     (refl, omega (arith, t), omega (arith, l.invariant.2), num_more s (l.j - 1) c.wide.result l.w (omega (arith, t, l.invariant.2)) c.wide.ensures.0 (rw e l.invariant.3)))
     (λ c κs. let a = start c in let s = a.args.s.now in let w = c.before.loop-j.w in
-    let z = left_ends s a.args.i w (bytes c) a.pre.1 a.pre.0 (all c) in
-    (a.pre.2, z, within s (bytes c) a.args.i a.args.k w a.pre.3 (left s a.args.i w a.pre.1 (all c)) z a.pre.0))
+    let z = left_ends s a.args.i w (bytes c) a.requires.1 a.requires.0 (all c) in
+    (a.requires.2, z, within s (bytes c) a.args.i a.args.k w a.requires.3 (left s a.args.i w a.requires.1 (all c)) z a.requires.0))
     (λ c. let b = c.before in let a = start b in let s = a.args.s.now in let w = b.before.loop-j.w in
-    took s (bytes b) a.args.i a.args.k w a.pre.3 (left s a.args.i w a.pre.1 (all b)) (left_ends s a.args.i w (bytes b) a.pre.1 a.pre.0 (all b)) a.pre.0 c.end.result.key c.end.result.next c.end.ensures.0 c.end.ensures.1))
+    took s (bytes b) a.args.i a.args.k w a.requires.3 (left s a.args.i w a.requires.1 (all b)) (left_ends s a.args.i w (bytes b) a.requires.1 a.requires.0 (all b)) a.requires.0 c.end.result.key c.end.result.next c.end.ensures.0 c.end.ensures.1))

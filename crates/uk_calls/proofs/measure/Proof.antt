@@ -19,7 +19,7 @@ groups22-requires c κs =
     ap digits c.after_sign-digits.ensures ∙ plain_digits (unsigned s.args.text.now) (formed_unsigned s.args.text.now s.requires.1)
 
 -- the text's groups
-grouped : (c : tie.After-plan) → Held 22 (unsigned c.before.before.before.before.before.before.before.before.args.text.now) c.before.before.before.groups22-gs.result c.before.before.count-orders.result
+grouped : (c : tie.After-plan-1) → Held 22 (unsigned c.before.before.before.before.before.before.before.before.args.text.now) c.before.before.before.groups22-gs.result c.before.before.count-orders.result
 grouped c =
     let s = c.before.before.before.before.before.before.before.before in
     held_text 22 s.args.text.now _ _ _ s.requires.1 s.requires.2 c.before.before.before.before.after_sign-digits.ensures c.before.before.before.groups22-gs.ensures c.before.before.count-orders.ensures

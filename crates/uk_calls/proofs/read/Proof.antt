@@ -30,4 +30,4 @@ read_spec =
     (λ c. search rules)
     (λ c.
     let a = c.before.before.before.before.before.before.before.before.before.args in
-    read_right (Says (ukrainian a.settings)) _ c.before.before.before.before.before.before.before.before.before.requires a.said.now _ a.out-1.now _ _ (bounded a.settings a.said.now) _ c.before.before.before.before.before.read_cardinal-read.ensures.0.0 c.before.before.put_read.ensures))
+    read_right (Says (ukrainian a.settings)) _ c.before.before.before.before.before.before.before.before.before.requires a.said.now _ a.out.now _ _ (bounded a.settings a.said.now) _ c.before.before.before.before.before.read_cardinal-read.ensures.0.0 c.before.before.put_read.ensures))

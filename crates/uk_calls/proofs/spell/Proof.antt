@@ -23,7 +23,7 @@ groups22-requires c κs =
     ap digits c.after_sign-digits.ensures ∙ plain_digits (unsigned s.args.text.now) (formed_unsigned s.args.text.now s.requires.1)
 
 -- the text's groups
-grouped : (c : tie.After-plan) → Held 22 (unsigned c.before.before.before.before.before.before.before.before.before.args.text.now) c.before.before.before.groups22-gs.result c.before.before.count.result
+grouped : (c : tie.After-plan-1) → Held 22 (unsigned c.before.before.before.before.before.before.before.before.before.args.text.now) c.before.before.before.groups22-gs.result c.before.before.count.result
 grouped c =
     let s = c.before.before.before.before.before.before.before.before.before in
     held_text 22 s.args.text.now _ _ _ s.requires.1 s.requires.2 c.before.before.before.before.after_sign-digits.ensures c.before.before.before.groups22-gs.ensures c.before.before.count.ensures
@@ -35,8 +35,8 @@ plan-cardinal-requires c κs =
     ((s.requires.0, g.few, g.top.zeros, omega arith), (g.below, g.size, c.before.before.before.before.before.before.is_zero-zero.ensures ∙ ap (λ (n : ℕ). eqb n 0) (sym g.number)))
 
 -- what the plan says
-phrase_is : (c : tie.After-plan-cardinal) → let p = c.plan_cardinal-n in let a = c.before.before.before.before.before.before.before.before.before.before.args in
-    phrase_of (says uk_pool p.new.1.1.1.1.1.0 p.result) ≡ (uk_to_cardinal a.settings a.text.now).phrase
+phrase_is : (c : tie.After-plan_cardinal-n) → let p = c.plan_cardinal-n in let a = c.before.before.before.before.before.before.before.before.before.before.args in
+    phrase_of (says uk_pool p.new.plan p.result) ≡ (uk_to_cardinal a.settings a.text.now).phrase
 phrase_is c = c.plan_cardinal-n.ensures.1 ∙ rw (c.before.before.before.before.before.before.is_negative-minus.ensures, (grouped c.before).number) refl
 
 pub spell_spec : {M : Type 1} → statement M
@@ -44,6 +44,6 @@ spell_spec =
     tie.close
     (tie.spec (λ c κs. search rules) (λ c κs. search rules) (λ c κs. search rules) groups22-requires (λ c κs. search rules) (λ c. search rules) plan-cardinal-requires
     (λ c. search rules)
-    (λ c κs. let p = c.before.before.before.plan_cardinal-n in (omega (arith, p.ensures.0, p.auto.1.1.1.1.1.0), omega (arith, p.ensures.0)))
+    (λ c κs. let p = c.before.before.before.plan_cardinal-n in (omega (arith, p.ensures.0, p.auto.plan), omega (arith, p.ensures.0)))
     (λ c. search rules)
     (λ c. (heard _ _ _ (phrase_is c.before.before.before.before.before.before) c.before.before.speak.ensures.0, omega (arith, c.before.before.speak.ensures.1, c.before.before.before.before.before.before.plan_cardinal-n.ensures.0))))

@@ -16,7 +16,7 @@ use Rattle.uk_calls.proofs.to_cardinal.Statement.{statement}
 use Rattle.uk_calls.proofs.to_cardinal.Tie as tie
 
 -- nothing is refused
-none : (c : tie.Then1) → let a = c.before.before.before.before.args in Unrefused (ukrainian_ranges (ukrainian_settings a.gender a.number a.case a.apostrophe a.style)) (cardinal_refusals 66 a.text.now)
+none : (c : tie.Then-n-eq0) → let a = c.before.before.before.before.args in Unrefused (ukrainian_ranges (ukrainian_settings a.gender a.number a.case a.apostrophe a.style)) (cardinal_refusals 66 a.text.now)
 none c = unrefused (sym c.before.refuse-n.ensures ∙ c.if-n-eq0.true)
 
 spell-requires : tie.Need-spell-requires

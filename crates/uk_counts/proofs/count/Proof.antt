@@ -11,7 +11,7 @@ use Rattle.uk_counts.proofs.count.Statement.{statement}
 use Rattle.uk_counts.proofs.count.Tie as tie
 
 -- what the first bytes lead to
-lead : (c : tie.After-lead-at) → c.lead_at-lead.result ≡ lead_of c.before.before.before.before.args.s.now
+lead : (c : tie.After-lead_at-lead) → c.lead_at-lead.result ≡ lead_of c.before.before.before.before.args.s.now
 unfolding lead_of
 lead c = c.lead_at-lead.ensures ∙ ap (λ (n : ℕ). lookup (n % 16511 % 100) leads) c.before.seven.ensures
 

@@ -10,7 +10,7 @@ use Rattle.uk_meanings.proofs.meaning.Statement.{statement}
 use Rattle.uk_meanings.proofs.meaning.Tie as tie
 
 -- what stands at the key's place
-at : (c : tie.After-entry-at) → c.entry_at-entry.result ≡ lookup (place_of c.before.before.args.key) table
+at : (c : tie.After-entry_at-entry) → c.entry_at-entry.result ≡ lookup (place_of c.before.before.args.key) table
 at c = let k = c.before.before.args.key in c.entry_at-entry.ensures ∙ ap (λ (n : ℕ). lookup ((k % 512 + n) % 512) table) c.before.shift-shift.ensures
 
 pub meaning_spec : {M : Type 1} → statement M

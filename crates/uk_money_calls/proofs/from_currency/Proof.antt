@@ -15,13 +15,13 @@ read-requires c κs =
 
 returns : tie.Need-returns-then-currency-lt-CURRENCIES
 returns c =
-    let k = c.before.before.before.before.before.before.code_of_lem in
+    let k = c.before.before.before.before.before.before.code_of-currency in
     rw (known_code _ (rw k.ensures at c.before.before.before.before.before.if-currency-lt-CURRENCIES.true)) (rw (c.before.before.before.before.ukrainian-settings.ensures, k.ensures) at c.before.before.read.ensures)
 
 returns-2 : tie.Need-returns-then-is_ukrainian
 returns-2 c =
     let w = sym c.before.before.before.before.is_ukrainian.ensures ∙ c.before.before.before.if-is_ukrainian.true in
-    refuses_first _ _ _ _ wrong_code c.refused.ensures (rw (w, unknown_code _ (rw c.before.before.code_of_lem.ensures at c.before.if-currency-lt-CURRENCIES.false)) refl) (λ z. omega arith)
+    refuses_first _ _ _ _ wrong_code c.refused.ensures (rw (w, unknown_code _ (rw c.before.before.code_of-currency.ensures at c.before.if-currency-lt-CURRENCIES.false)) refl) (λ z. omega arith)
 
 returns-3 : tie.Need-returns
 returns-3 c =

@@ -17,7 +17,7 @@ use Rattle.uk_money_calls.proofs.measure.Statement.{statement}
 use Rattle.uk_money_calls.proofs.measure.Tie as tie
 
 -- the digits of the whole part
-whole_is : (c : tie.After-after-sign) → c.after_sign-digits.result.now ≡ unsigned (whole_text c.before.before.before.before.args.text.now)
+whole_is : (c : tie.After-after_sign-digits) → c.after_sign-digits.result.now ≡ unsigned (whole_text c.before.before.before.before.args.text.now)
 whole_is c = c.after_sign-digits.ensures ∙ ap unsigned c.before.before.whole_part-whole.ensures
 
 value-of-requires : tie.Need-value_of-hundredths-requires
@@ -28,14 +28,14 @@ value-of-requires c κs =
     (ap digits e ∙ hundredths_digits t s.requires.2, rw e (lt_trans (hundredths_small t s.requires.2) (lit< tt)))
 
 -- the hundredths are the text's, and below 100
-part_is : (c : tie.After-value-of) → c.value_of_lem.result ≡ hundredths_of c.before.before.before.before.before.before.before.before.args.text.now
-part_is c = c.value_of_lem.ensures ∙ ap value c.before.hundredths_part.ensures
+part_is : (c : tie.After-value_of-hundredths) → c.value_of-hundredths.result ≡ hundredths_of c.before.before.before.before.before.before.before.before.args.text.now
+part_is c = c.value_of-hundredths.ensures ∙ ap value c.before.hundredths_part.ensures
 
-small : (c : tie.After-value-of) → c.value_of_lem.result < 100
+small : (c : tie.After-value_of-hundredths) → c.value_of-hundredths.result < 100
 small c = let s = c.before.before.before.before.before.before.before.before in rw (part_is c) (hundredths_small s.args.text.now s.requires.2)
 
 -- the whole part's groups
-grouped : (c : tie.After-plan) → Held 22 (unsigned (whole_text c.before.before.before.before.before.before.before.before.before.before.args.text.now)) c.before.before.before.before.before.groups22-gs.result c.before.before.before.before.count-n.result × (c.before.before.before.before.count-n.result ≤ 7)
+grouped : (c : tie.After-plan-1) → Held 22 (unsigned (whole_text c.before.before.before.before.before.before.before.before.before.before.args.text.now)) c.before.before.before.before.before.groups22-gs.result c.before.before.before.before.count-n.result × (c.before.before.before.before.count-n.result ≤ 7)
 grouped c =
     let s = c.before.before.before.before.before.before.before.before.before.before in
     whole_held s.args.text.now s.requires.2 _ _ _ (whole_is c.before.before.before.before.before.before) c.before.before.before.before.before.groups22-gs.ensures c.before.before.before.before.count-n.ensures

@@ -15,25 +15,25 @@ spell-requires c κs =
     let a = c.before.before.before.before.before.before.before.before.before.before.before.before.args in (
       rw c.before.ukrainian-settings.ensures (within_holds (ukrainian_ranges (ukrainian_settings a.gender a.number a.case a.apostrophe a.style)) (sym c.before.before.before.before.before.before.before.before.is_ukrainian.ensures ∙ c.before.before.before.before.before.before.before.if-is_ukrainian.true)),
       c.before.before.before.before.before.if-currency-lt-CURRENCIES.true,
-      sym (c.before.before.before.number_of_lem.ensures ∙ c.before.before.before.before.judge_amount.ensures) ∙ c.before.before.if-n-eq0.true,
+      sym (c.before.before.before.number_of-n.ensures ∙ c.before.before.before.before.judge_amount.ensures) ∙ c.before.before.if-n-eq0.true,
     )
 
 returns : tie.Need-returns-then-n-eq0
 returns c =
-    let k = c.before.before.before.before.before.before.before.before.before.code_of_lem in
+    let k = c.before.before.before.before.before.before.before.before.before.code_of-currency in
     let w = sym c.before.before.before.before.before.before.before.before.before.before.before.is_ukrainian.ensures ∙ c.before.before.before.before.before.before.before.before.before.before.if-is_ukrainian.true in
-    let z = sym (c.before.before.before.before.before.before.number_of_lem.ensures ∙ c.before.before.before.before.before.before.before.judge_amount.ensures) ∙ c.before.before.before.before.before.if-n-eq0.true in
+    let z = sym (c.before.before.before.before.before.before.number_of-n.ensures ∙ c.before.before.before.before.before.before.before.judge_amount.ensures) ∙ c.before.before.before.before.before.if-n-eq0.true in
     (rw (w, known_code _ (rw k.ensures at c.before.before.before.before.before.before.before.before.if-currency-lt-CURRENCIES.true), z) (rw (c.before.before.before.before.ukrainian-settings.ensures, k.ensures) at c.before.before.spell.ensures.0), c.before.before.spell.ensures.1)
 
 returns-2 : tie.Need-returns-then-currency-lt-CURRENCIES
 returns-2 c =
     let w = sym c.before.before.before.before.before.before.before.is_ukrainian.ensures ∙ c.before.before.before.before.before.before.if-is_ukrainian.true in
-    (rw (w, known_code _ (rw c.before.before.before.before.before.code_of_lem.ensures at c.before.before.before.before.if-currency-lt-CURRENCIES.true)) (refused_as _ _ _ _ _ c.refused.ensures (c.before.before.number_of_lem.ensures ∙ c.before.before.before.judge_amount.ensures) c.before.if-n-eq0.false), omega (arith, c.refused.ensures.1))
+    (rw (w, known_code _ (rw c.before.before.before.before.before.code_of-currency.ensures at c.before.before.before.before.if-currency-lt-CURRENCIES.true)) (refused_as _ _ _ _ _ c.refused.ensures (c.before.before.number_of-n.ensures ∙ c.before.before.before.judge_amount.ensures) c.before.if-n-eq0.false), omega (arith, c.refused.ensures.1))
 
 returns-3 : tie.Need-returns-then-is_ukrainian
 returns-3 c =
     let w = sym c.before.before.before.before.is_ukrainian.ensures ∙ c.before.before.before.if-is_ukrainian.true in
-    (rw (w, unknown_code _ (rw c.before.before.code_of_lem.ensures at c.before.if-currency-lt-CURRENCIES.false)) (refuses c.refused-then-is_ukrainian.ensures), omega (arith, c.refused-then-is_ukrainian.ensures.1))
+    (rw (w, unknown_code _ (rw c.before.before.code_of-currency.ensures at c.before.if-currency-lt-CURRENCIES.false)) (refuses c.refused-then-is_ukrainian.ensures), omega (arith, c.refused-then-is_ukrainian.ensures.1))
 
 returns-4 : tie.Need-returns
 returns-4 c = (rw (sym c.before.before.is_ukrainian.ensures ∙ c.before.if-is_ukrainian.false) (refuses c.refused-2.ensures), omega (arith, c.refused-2.ensures.1))

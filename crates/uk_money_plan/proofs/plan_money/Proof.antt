@@ -41,7 +41,7 @@ returns-3 c =
     )
 
 -- under the settings that the number holds
-held : (c : tie.After-packed) → Within (ukrainian_ranges (settings_in c.packed-code.result))
+held : (c : tie.After-packed-code) → Within (ukrainian_ranges (settings_in c.packed-code.result))
 held c = rw c.packed-code.ensures c.before.before.requires.0.0
 
 pub plan_money_spec : {M : Type 1} → statement M
@@ -61,6 +61,6 @@ plan_money_spec =
     (λ c κs.
     let p = c.before.before.before.before.before.before.before.before.before.requires in
     let q = c.before.before.before.say_main-k in
-    (held c.before.before.before.before.before.before.before, p.0.1, omega (arith, c.before.before.before.before.before.before.if-hundredths-eq0.false), p.0.4, omega (arith, p.0.2, p.0.5, q.ensures.added.near, q.auto.1.1.1.1.1.0)))
+    (held c.before.before.before.before.before.before.before, p.0.1, omega (arith, c.before.before.before.before.before.before.if-hundredths-eq0.false), p.0.4, omega (arith, p.0.2, p.0.5, q.ensures.added.near, q.auto.plan)))
     (λ c. search rules)
     returns-3)

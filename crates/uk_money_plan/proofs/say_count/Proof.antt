@@ -22,7 +22,7 @@ say-name-requires : tie.Need-say_name-requires
 say-name-requires c κs =
     let s = c.before.before.before.before.before.before.before.before.before.before.before in
     let p = c.before.before.before.before.before.say_cardinal-k in
-    (s.requires.0.0, rw c.before.before.before.before.before.before.before.before.before.unpacked-settings.ensures s.requires.0.2, omega (arith, s.requires.0.5, p.ensures.added.near, p.auto.1.1.1.1.1.0))
+    (s.requires.0.0, rw c.before.before.before.before.before.before.before.before.before.unpacked-settings.ensures s.requires.0.2, omega (arith, s.requires.0.5, p.ensures.added.near, p.auto.plan))
 
 returns : tie.Need-returns
 unfolding count_words

@@ -20,6 +20,6 @@ say_form_spec =
     (λ c. search rules)
     (λ c. let s = c.before.before.before.before.before.before.before.args in retell 2 (told_word (c.before.before.push-then-end-eq0.ensures uk_pool) (only_stem s.stem s.end c.before.before.before.before.if-end-eq0.true)) (omega arith) refl)
     (λ c κs. search rules)
-    (λ c κs. omega (arith, c.before.before.before.before.before.before.before.before.requires, (c.before.before.before.push-k.ensures uk_pool).near, c.before.before.before.push-k.auto.0))
+    (λ c κs. omega (arith, c.before.before.before.before.before.before.before.before.requires, (c.before.before.before.push-k.ensures uk_pool).near, c.before.before.before.push-k.auto.plan))
     (λ c. search rules)
     (λ c. told_ended (c.before.before.before.before.before.before.push-k.ensures uk_pool) (c.before.before.push-2.ensures uk_pool) refl refl))

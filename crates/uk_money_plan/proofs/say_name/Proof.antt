@@ -10,12 +10,12 @@ use Rattle.uk_money_plan.proofs.say_name.Tie as tie
 say-form-requires : tie.Need-say_form-requires
 say-form-requires c κs =
     let q = c.before.before.before.before.before.before.say_adjective-k in
-    omega (arith, c.before.before.before.before.before.before.before.before.before.before.before.requires.2, (q.ensures _ c.before.before.before.before.before.before.before.before.before.agreed_place-place.ensures.1).added.near, q.auto.1.1.0)
+    omega (arith, c.before.before.before.before.before.before.before.before.before.before.before.before.requires.2, (q.ensures _ c.before.before.before.before.before.before.before.before.before.before.agreed_place-place.ensures.1).added.near, q.auto.plan)
 
 returns : tie.Need-returns
 returns c name row =
-    let s = c.before.before.before.before.before.before.before.before.before.before.before.before.before.before.args in
-    let p = c.before.before.before.before.before.before.before.before.before.before.before.before.agreed_place-place in
+    let s = c.before.before.before.before.before.before.before.before.before.before.before.before.before.before.before.args in
+    let p = c.before.before.before.before.before.before.before.before.before.before.before.before.before.agreed_place-place in
     let q = c.before.before.before.before.ending in
     retell 4 (tell 4 (c.before.before.before.before.before.before.before.before.before.say_adjective-k.ensures _ p.ensures.1) c.before.before.say_form.ensures (omega arith)) (omega arith)
     (name_is s.settings name s.row.now row s.n p.result q.result p.ensures.1 q.ensures)

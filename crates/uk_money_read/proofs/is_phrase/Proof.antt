@@ -16,6 +16,6 @@ is_phrase_spec =
     (λ c. search rules)
     (λ c κs. search rules)
     (λ c. search rules)
-    (λ c. let p = c.before.before.plan_money-k in sym (length-take-le p.result p.new.1.1.1.1.1.1.0 (omega (arith, p.ensures.0, p.auto.1.1.1.1.1.1.0))))
+    (λ c. let p = c.before.before.plan_money-k in sym (length-take-le p.result p.new.plan (omega (arith, p.ensures.0, p.auto.plan))))
     (λ c κs. search rules)
-    (λ c. let p = c.before.before.before.plan_money-k in words_stand c.stands.result c.before.before.before.before.before.before.args.s.now uk_pool p.new.1.1.1.1.1.1.0 _ p.result p.ensures.1 c.stands.ensures))
+    (λ c. let p = c.before.before.before.plan_money-k in words_stand c.stands.result c.before.before.before.before.before.before.args.s.now uk_pool p.new.plan _ p.result p.ensures.1 c.stands.ensures))

@@ -14,12 +14,12 @@ use Rattle.uk_read.proofs.Below.{zeros_groups}
 use Rattle.uk_money_read.proofs.lowest.Statement.{statement}
 use Rattle.uk_money_read.proofs.lowest.Tie as tie
 
-made : (c : tie.After-groups) → c.groups.new.1.1.0 ≡ sums 22 (split c.before.before.before.args.s.now)
+made : (c : tie.After-groups) → c.groups.new.out ≡ sums 22 (split c.before.before.before.args.s.now)
 made c = c.groups.ensures.0.0 ∙ append-nil (sums 22 (split c.before.before.before.args.s.now))
 
 cast-result : tie.Need-overflow_cast-result
 cast-result c =
-    omega (arith, group_lt c.groups.new.1.1.0 0 (c.groups.ensures.0.1 (zeros_groups 22)) (rw (made c, sums_length) (omega arith)))
+    omega (arith, group_lt c.groups.new.out 0 (c.groups.ensures.0.1 (zeros_groups 22)) (rw (made c, sums_length) (omega arith)))
 
 pub lowest_spec : {M : Type 1} → statement M
 lowest_spec =

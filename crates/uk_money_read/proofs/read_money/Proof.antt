@@ -15,13 +15,13 @@ use Rattle.uk_money_read.proofs.read_money.Statement.{statement}
 use Rattle.uk_money_read.proofs.read_money.Tie as tie
 
 -- the groups and the hundredths that were made of the bytes
-made : (c : tie.After-groups) → All (split c.before.before.before.args.s.now) c.groups-span.new.1.1.0 c.groups-span.result.orders
+made : (c : tie.After-groups-span) → All (split c.before.before.before.args.s.now) c.groups-span.new.out c.groups-span.result.orders
 made c =
     let a = c.before.before.before in
     let g = c.groups-span.ensures in
-    all_read (split a.args.s.now) a.args.out.now c.groups-span.new.1.1.0 c.groups-span.result.orders a.requires.2 g.0.0 g.0.1 g.1.1.0 g.1.1.1
+    all_read (split a.args.s.now) a.args.out.now c.groups-span.new.out c.groups-span.result.orders a.requires.2 g.0.0 g.0.1 g.1.1.0 g.1.1.1
 
-hundredths : (c : tie.After-lowest) → c.lowest-h.result ≡ get_or (sums 22 (behind (left 22 (split c.before.before.before.before.before.before.before.before.before.before.args.s.now)))) 0 0
+hundredths : (c : tie.After-lowest-h) → c.lowest-h.result ≡ get_or (sums 22 (behind (left 22 (split c.before.before.before.before.before.before.before.before.before.before.args.s.now)))) 0 0
 hundredths c =
     let g = c.before.before.before.before.before.before.before.groups-span in
     let n = c.before.before.nouns-m in
@@ -29,34 +29,34 @@ hundredths c =
 
 is-amount-requires : tie.Need-is_amount-requires
 is-amount-requires c κs =
-    let a = c.before.before.before.before.before.before.before.before.before.before.before in
-    let m = made c.before.before.before.before.before.before.before.before in
-    let t = c.before.before.before.before.before.top-n.ensures in
+    let a = c.before.before.before.before.before.before.before.before.before.before in
+    let m = made c.before.before.before.before.before.before.before in
+    let t = c.before.before.before.before.top-n.ensures in
     ((a.requires.0, a.requires.1, m.small, m.size), (t.0, top_zero _ _ t.0 t.1))
 
 returns : tie.Need-returns-then-is_amount
 returns c =
-    let a = c.before.before.before.before.before.before.before.before.before.before.before.before.before in
-    let m = made c.before.before.before.before.before.before.before.before.before.before in
-    (found a.args.settings a.requires.0 a.args.currency a.requires.1 a.args.s.now c.before.before.before.before.before.before.before.before.before.before.groups-span.new.1.1.0 m.size m.small c.before.before.before.lowest-h.result (c.before.is_amount.ensures.holds c.if-is_amount.true), c.before.before.before.before.before.before.before.top-n.ensures.0)
+    let a = c.before.before.before.before.before.before.before.before.before.before.before.before in
+    let m = made c.before.before.before.before.before.before.before.before.before in
+    (found a.args.settings a.requires.0 a.args.currency a.requires.1 a.args.s.now c.before.before.before.before.before.before.before.before.before.groups-span.new.out m.size m.small c.before.before.lowest-h.result (c.before.is_amount.ensures.holds c.if-is_amount.true), c.before.before.before.before.before.before.top-n.ensures.0)
 
 cast-alone : tie.Need-overflow_cast-alone
-cast-alone c = let m = made c.before.before.before.before.before.before.before.before.before.before.before in omega (arith, group_lt c.before.before.before.before.before.before.before.before.before.before.before.groups-span.new.1.1.0 0 m.small (rw m.size (omega arith)))
+cast-alone c = let m = made c.before.before.before.before.before.before.before.before.before.before.before in omega (arith, group_lt c.before.before.before.before.before.before.before.before.before.before.before.groups-span.new.out 0 m.small (rw m.size (omega arith)))
 
 is-amount-requires-2 : tie.Need-is_amount-requires-2
-is-amount-requires-2 c κs = let a = c.before.before.before.before.before.before.before.before.before.before.before.before.before.before.before.before in ((a.requires.0, a.requires.1, zeros_groups 22, refl), (zeros_highest 22, refl))
+is-amount-requires-2 c κs = let a = c.before.before.before.before.before.before.before.before.before.before.before.before.before.before.before in ((a.requires.0, a.requires.1, zeros_groups 22, refl), (zeros_highest 22, refl))
 
 returns-2 : tie.Need-returns-then-is_amount-2
 returns-2 c =
-    let a = c.before.before.before.before.before.before.before.before.before.before.before.before.before.before.before.before.before.before in
+    let a = c.before.before.before.before.before.before.before.before.before.before.before.before.before.before.before.before.before in
     (found a.args.settings a.requires.0 a.args.currency a.requires.1 a.args.s.now (zeros 22) refl (zeros_groups 22) _ (c.before.is_amount-2.ensures.holds c.if-is_amount-2.true), zeros_highest 22)
 
 returns-3 : tie.Need-returns
 returns-3 c =
-    let a = c.before.before.before.before.before.before.before.before.before.before.before.before.before.before.before.before.before.before in
-    let m = made c.before.before.before.before.before.before.before.before.before.before.before.before.before.before.before in (
-      refused a.args.settings a.requires.0 a.args.currency a.requires.1 a.args.s.now c.before.before.before.before.before.before.before.before.before.before.before.before.before.before.before.groups-span.new.1.1.0 (zeros 22) refl (zeros_groups 22) refl
-          m.groups-span c.before.before.before.before.before.before.before.before.lowest-h.result (hundredths c.before.before.before.before.before.before.before.before) (c.before.before.before.before.before.before.is_amount.ensures.fails c.before.before.before.before.before.if-is_amount.false) (c.before.is_amount-2.ensures.fails c.if-is_amount-2.false),
+    let a = c.before.before.before.before.before.before.before.before.before.before.before.before.before.before.before.before.before in
+    let m = made c.before.before.before.before.before.before.before.before.before.before.before.before.before.before in (
+      refused a.args.settings a.requires.0 a.args.currency a.requires.1 a.args.s.now c.before.before.before.before.before.before.before.before.before.before.before.before.before.before.groups-span.new.out (zeros 22) refl (zeros_groups 22) refl
+          m.groups c.before.before.before.before.before.before.before.lowest-h.result (hundredths c.before.before.before.before.before.before.before) (c.before.before.before.before.before.before.is_amount.ensures.fails c.before.before.before.before.before.if-is_amount.false) (c.before.is_amount-2.ensures.fails c.if-is_amount-2.false),
       zeros_highest 22,
     )
 

@@ -11,7 +11,7 @@ use Rattle.uk_ordinal_calls.proofs.measure_ordinal.Statement.{statement}
 use Rattle.uk_ordinal_calls.proofs.measure_ordinal.Tie as tie
 
 -- nothing is refused
-none : (c : tie.Then1) → let a = c.before.before.before.args in Unrefused (ukrainian_ranges (ukrainian_settings a.gender a.number a.case a.apostrophe a.style)) (ordinal_refusals 66 a.text.now)
+none : (c : tie.Then-n-eq0) → let a = c.before.before.before.args in Unrefused (ukrainian_ranges (ukrainian_settings a.gender a.number a.case a.apostrophe a.style)) (ordinal_refusals 66 a.text.now)
 none c = unrefused (sym c.before.refuse_ordinal-n.ensures ∙ c.if-n-eq0.true)
 
 ordinal-measure-requires : tie.Need-ordinal_measure-requires

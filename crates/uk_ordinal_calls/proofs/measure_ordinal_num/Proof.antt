@@ -13,7 +13,7 @@ use Rattle.uk_ordinal_calls.proofs.measure_ordinal_num.Statement.{statement}
 use Rattle.uk_ordinal_calls.proofs.measure_ordinal_num.Tie as tie
 
 -- nothing is refused
-none : (c : tie.Then1) → let a = c.before.before.before.args in Unrefused (ukrainian_ranges (ukrainian_settings a.gender a.number a.case a.apostrophe a.style)) (digit_ordinal_refusals a.text.now)
+none : (c : tie.Then-n-eq0) → let a = c.before.before.before.args in Unrefused (ukrainian_ranges (ukrainian_settings a.gender a.number a.case a.apostrophe a.style)) (digit_ordinal_refusals a.text.now)
 none c = unrefused (sym c.before.refuse_digit_ordinal-n.ensures ∙ c.if-n-eq0.true)
 
 size-requires : tie.Need-size-size-requires

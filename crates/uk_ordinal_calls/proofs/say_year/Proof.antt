@@ -18,11 +18,11 @@ use Rattle.uk_ordinal_calls.proofs.say_year.Statement.{statement}
 use Rattle.uk_ordinal_calls.proofs.say_year.Tie as tie
 
 -- the magnitude, and its groups
-module _ (c : tie.After-gs2) where
+module _ (c : tie.After-gs-2-1) where
   magnitude-is : c.before.before.before.magnitude.result ≡ nat_abs c.before.before.before.before.before.args.year
   magnitude-is = c.before.before.before.magnitude.ensures ∙ ap nat_abs (to_z-of_z c.before.before.before.before.before.ranges.year)
 
-  groups-are : c.before.groups_from-k.new.1.0 ≡ groups_of 22 (nat_abs c.before.before.before.before.before.args.year)
+  groups-are : c.before.groups_from-k.new.out ≡ groups_of 22 (nat_abs c.before.before.before.before.before.args.year)
   groups-are = c.before.groups_from-k.ensures.0 ∙ ap (groups_of 22) magnitude-is
 
   held : nat_abs c.before.before.before.before.before.args.year < 1000 ^ 22

@@ -15,7 +15,7 @@ lowest_words_spec =
     (tie.spec
     (λ c κs. search rules)
     (λ c. search rules)
-    (λ c rest alone. let a = c.before.before.before.before.before.before.args in respeak 6 c.before.before.plain_words_lem.ensures (omega arith) (lowest_plain a.settings (part uk_pool a.ending) rest a.order a.g c.before.before.before.before.if-order-eq0.true))
+    (λ c rest alone. let a = c.before.before.before.before.before.before.args in respeak 6 c.before.before.plain_words.ensures (omega arith) (lowest_plain a.settings (part uk_pool a.ending) rest a.order a.g c.before.before.before.before.if-order-eq0.true))
     (λ c κs. search rules)
     (λ c. search rules)
-    (λ c rest alone. let a = c.before.before.before.before.before.before.args in respeak 6 (c.before.before.scale_word_lem.ensures rest alone) (omega arith) (lowest_scale a.settings (part uk_pool a.ending) rest a.order a.g c.before.before.before.before.if-order-eq0.false)))
+    (λ c rest alone. let a = c.before.before.before.before.before.before.args in respeak 6 (c.before.before.scale_word.ensures rest alone) (omega arith) (lowest_scale a.settings (part uk_pool a.ending) rest a.order a.g c.before.before.before.before.if-order-eq0.false)))

@@ -18,7 +18,7 @@ say-era-requires : tie.Need-say_era-requires
 say-era-requires c κs =
     let p = c.before.before.before.before.before.before.before.before.ordinal_under-a in
     let q = c.before.before.before.push-b in
-    omega (arith, c.before.before.before.before.before.before.before.before.before.before.before.before.before.requires.3, p.ensures.said.added.near, p.auto.1.1.1.0, (q.ensures uk_pool).near, q.auto.0)
+    omega (arith, c.before.before.before.before.before.before.before.before.before.before.before.before.before.requires.3, p.ensures.said.added.near, p.auto.plan, (q.ensures uk_pool).near, q.auto.plan)
 
 returns : tie.Need-returns
 returns c =

@@ -16,14 +16,14 @@ use Rattle.uk_ordinal_plan.proofs.say_ordinal.Statement.{statement}
 use Rattle.uk_ordinal_plan.proofs.say_ordinal.Tie as tie
 
 -- the ending of the number
-ends : (c : tie.After-ending) → let a = c.before.before.before.before.args in part uk_pool c.ending-ending.result ≡ flexion a.settings (soft (get_or a.gs.now 0 0))
+ends : (c : tie.After-ending-ending) → let a = c.before.before.before.before.args in part uk_pool c.ending-ending.result ≡ flexion a.settings (soft (get_or a.gs.now 0 0))
 ends c = c.ending-ending.ensures ∙ ap (flexion c.before.before.before.before.args.settings) c.before.is_soft.ensures
 
 -- the lowest group is one
-inside : (c : tie.Else1) → c.before.lowest-order.result < 22
+inside : (c : tie.Else-order-eq-ORDERS) → c.before.lowest-order.result < 22
 inside c = omega (arith, c.before.lowest-order.ensures.most, c.if-order-eq-ORDERS.false)
 
-positive : (c : tie.Else1) → 0 < get_or c.before.before.before.before.before.before.args.gs.now c.before.lowest-order.result 0
+positive : (c : tie.Else-order-eq-ORDERS) → 0 < get_or c.before.before.before.before.before.before.args.gs.now c.before.lowest-order.result 0
 positive c = omega (arith, c.before.lowest-order.ensures.some (inside c))
 
 returns : tie.Need-returns-then-order-eq-ORDERS
@@ -45,7 +45,7 @@ lowest-words-requires c κs =
     let s = c.before.before.before.before.before.before.before.before.before.before.before.before.before in
     let q = c.before.before.before.higher-k in
     rw c.before.before.before.before.before.wide_group-g.ensures
-    (s.requires.0, inside c.before.before.before.before.before.before.before, positive c.before.before.before.before.before.before.before, s.requires.1.below c.before.before.before.before.before.before.before.before.lowest-order.result, omega (arith, s.requires.3, q.ensures.added.near, q.auto.1.1.1.1.1.0))
+    (s.requires.0, inside c.before.before.before.before.before.before.before, positive c.before.before.before.before.before.before.before, s.requires.1.below c.before.before.before.before.before.before.before.before.lowest-order.result, omega (arith, s.requires.3, q.ensures.added.near, q.auto.plan))
 
 returns-2 : tie.Need-returns
 returns-2 c =

@@ -14,7 +14,7 @@ before_spec =
     tie.close
     (tie.spec
     (λ c. search rules)
-    (λ c. let a = c.before.before.args in none_taken (a.at - 1) a.s.now (omega (arith, c.before.if-at-eq0.true)))
+    (λ c. let a = c.before.args in none_taken (a.at - 1) a.s.now (omega (arith, c.if-at-eq0.true)))
     (λ c. search rules)
-    (λ c. let a = c.before.before.args in sym (length-take-le (a.at - 1) a.s.now (omega (arith, c.before.before.requires))))
+    (λ c. let a = c.before.args in sym (length-take-le (a.at - 1) a.s.now (omega (arith, c.before.requires))))
     (λ c. search rules))

@@ -19,9 +19,9 @@ is_phrase_spec =
     (λ c. search rules)
     (λ c κs. let a = c.before.before in (a.requires.0, groups_22 a.args.gs.now a.requires.2 a.requires.1, a.requires.3, omega arith))
     (λ c. search rules)
-    (λ c. let p = c.before.before.plan_year-k in sym (length-take-le p.result p.new.1.1.1.1.0 (omega (arith, p.ensures.0, p.auto.1.1.1.1.0))))
+    (λ c. let p = c.before.before.plan_year-k in sym (length-take-le p.result p.new.plan (omega (arith, p.ensures.0, p.auto.plan))))
     (λ c κs. search rules)
     (λ c.
     let p = c.before.before.before.plan_year-k in
     let a = c.before.before.before.before.before.before.args in
-    words_stand c.stands.result a.s.now uk_pool p.new.1.1.1.1.0 (phrase a.settings a.early (total a.gs.now)) p.result p.ensures.1 c.stands.ensures))
+    words_stand c.stands.result a.s.now uk_pool p.new.plan (phrase a.settings a.early (total a.gs.now)) p.result p.ensures.1 c.stands.ensures))

@@ -17,21 +17,21 @@ use Rattle.uk_ordinal_read.proofs.read_ordinal.Tie as tie
 
 plan-ordinal-requires : tie.Need-plan_ordinal-k-requires
 plan-ordinal-requires c κs =
-    let g = c.before.before.guess-n in
-    (c.before.before.before.before.before.requires.0, groups_22 g.new.1.1.0 g.ensures.0.2 g.ensures.0.1, g.ensures.1.0, omega arith)
+    let g = c.before.guess-n in
+    (c.before.before.before.before.requires.0, groups_22 g.new.out g.ensures.0.2 g.ensures.0.1, g.ensures.1.0, omega arith)
 
 slice-aggregate-stands : tie.Need-slice_bounds-stands-end
 slice-aggregate-stands c =
     let p = c.before.before.plan_ordinal-k in
-    sym (length-take-le p.result p.new.1.1.1.0 (omega (arith, p.ensures.0, p.auto.1.1.1.0)))
+    sym (length-take-le p.result p.new.plan (omega (arith, p.ensures.0, p.auto.plan)))
 
 returns : tie.Need-returns
 returns c =
-    let a = c.before.before.before.before.before.before.before.before.before.before in
-    let g = c.before.before.before.before.before.before.before.guess-n in
-    let gs = g.new.1.1.0 in
+    let a = c.before.before.before.before.before.before.before.before.before in
+    let g = c.before.before.before.before.before.before.guess-n in
+    let gs = g.new.out in
     let p = c.before.before.before.before.plan_ordinal-k in
-    let d = words_stand c.before.stands-stands.result a.args.s.now uk_pool p.new.1.1.1.0 (joined (ordinal_words a.args.settings (total gs))) p.result p.ensures.1 c.before.stands-stands.ensures in (
+    let d = words_stand c.before.stands-stands.result a.args.s.now uk_pool p.new.plan (joined (ordinal_words a.args.settings (total gs))) p.result p.ensures.1 c.before.stands-stands.ensures in (
       (
         rw c.seen_of-seen.ensures (ordinal_read a.args.settings a.requires.0 a.requires.1 a.args.s.now gs g.ensures.0.0 g.ensures.0.1 g.ensures.0.2 c.before.stands-stands.result (eqb g.result 0) d),
         g.ensures.0.1,

@@ -15,6 +15,6 @@ stem_spec =
     tie.close
     (tie.spec
     (λ c. search rules)
-    (λ c. let a = c.before.before.args in none_taken (length a.word.now - a.ending) a.word.now (omega (arith, c.before.if-n-ending.true)))
-    (λ c. let a = c.before.before.args in sym (length-take-le (length a.word.now - a.ending) a.word.now (omega arith)))
+    (λ c. let a = c.before.args in none_taken (length a.word.now - a.ending) a.word.now (omega (arith, c.if-n-ending.true)))
+    (λ c. let a = c.before.args in sym (length-take-le (length a.word.now - a.ending) a.word.now (omega arith)))
     (λ c. search rules))

@@ -42,8 +42,8 @@ unfolding listed
     (λ c κs.
     let s = c.before.before.before.before.before.before.before.before.before in
     let p = c.before.before.before.group-k in
-    (omega (arith, s.requires.0), (s.requires.1.0, omega arith, omega (arith, s.requires.1.2, p.ensures.added.near, p.auto.1.1.1.0))))
-    (λ c. c.before.before.groups.auto.1.1.1.0 ∙ c.before.before.before.before.before.before.group-k.auto.1.1.1.0)
+    (omega (arith, s.requires.0), (s.requires.1.0, omega arith, omega (arith, s.requires.1.2, p.ensures.added.near, p.auto.plan))))
+    (λ c. c.before.before.groups.auto.plan ∙ c.before.before.before.before.before.before.group-k.auto.plan)
     (λ c.
     let s = c.before.before.before.before.before.before.before.before.before.before.before.before in
     let n = s.args.n in

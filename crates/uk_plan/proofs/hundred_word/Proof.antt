@@ -14,7 +14,7 @@ unfolding ukrainian_digits
 hundred_word_spec =
     tie.close
     (tie.spec
-    (λ c. retell 1 (quiet 1 _ _) (omega arith) (opt_none _ _ c.if-h-eq0.true))
+    (λ c. retell 1 (quiet 1 _ _) (omega arith) (opt_none (ukrainian_digits c.before.before.args.settings).hundred _ c.if-h-eq0.true))
     (λ c κs. search rules) (λ c κs. search rules)
     (λ c. search rules)
-    (λ c. retell 1 (told_word (c.before.before.push.ensures uk_pool) c.before.before.before.hundred.ensures) (omega arith) (opt_some _ _ c.before.before.before.before.before.if-h-eq0.false)))
+    (λ c. retell 1 (told_word (c.before.before.push.ensures uk_pool) c.before.before.before.hundred.ensures) (omega arith) (opt_some (ukrainian_digits c.before.before.before.before.before.before.before.args.settings).hundred _ c.before.before.before.before.before.if-h-eq0.false)))

@@ -18,15 +18,15 @@ low_words_spec =
     (tie.spec
     (λ c κs. search rules)
     (λ c. search rules)
-    (λ c. rw c.before.before.before.before.if-t-eq0.true (retell 2 c.before.before.unit_word_lem.ensures (omega arith) refl))
+    (λ c. rw c.before.before.before.before.if-t-eq0.true (retell 2 c.before.before.unit_word.ensures (omega arith) refl))
     (λ c κs. search rules) (λ c κs. search rules) (λ c κs. search rules)
-    (λ c κs. omega (arith, c.before.before.before.before.before.before.before.before.before.before.requires.3, (c.before.before.before.before.push-k.ensures uk_pool).near, c.before.before.before.before.push-k.auto.0))
+    (λ c κs. omega (arith, c.before.before.before.before.before.before.before.before.before.before.requires.3, (c.before.before.before.before.push-k.ensures uk_pool).near, c.before.before.before.before.push-k.auto.plan))
     (λ c. search rules)
     (λ c.
     let e : 10 + c.before.before.before.before.before.before.before.before.before.before.before.before.before.args.u - 10 ≡ c.before.before.before.before.before.before.before.before.before.before.before.before.before.args.u = omega arith in
     rw (c.before.before.before.before.before.before.before.before.before.before.if-t-eq1.true, e) (told_ended (c.before.before.before.before.before.before.before.push-k.ensures uk_pool) (c.before.before.push.ensures uk_pool) c.before.before.before.before.before.before.before.before.teen.ensures c.before.before.before.teen_ending.ensures))
     (λ c κs. search rules) (λ c κs. search rules)
-    (λ c κs. let s = c.before.before.before.before.before.before.before.before.before in (s.requires.0, s.requires.2, omega (arith, s.requires.3, (c.before.before.before.push-k-2.ensures uk_pool).near, c.before.before.before.push-k-2.auto.0)))
+    (λ c κs. let s = c.before.before.before.before.before.before.before.before.before in (s.requires.0, s.requires.2, omega (arith, s.requires.3, (c.before.before.before.push-k-2.ensures uk_pool).near, c.before.before.before.push-k-2.auto.plan)))
     (λ c. search rules)
     (λ c.
     let s = c.before.before.before.before.before.before.before.before.before.before.before.before in

@@ -16,7 +16,7 @@ noun_word_spec =
     (tie.spec
     (λ c. rw c.if-order-eq0.true (quiet 2 _ _))
     (λ c κs. search rules) (λ c κs. search rules) (λ c κs. search rules) (λ c κs. search rules)
-    (λ c κs. omega (arith, c.before.before.before.before.before.before.before.before.before.before.requires.2, (c.before.before.before.before.before.push-k.ensures uk_pool).near, c.before.before.before.before.before.push-k.auto.0))
+    (λ c κs. omega (arith, c.before.before.before.before.before.before.before.before.before.before.requires.2, (c.before.before.before.before.before.push-k.ensures uk_pool).near, c.before.before.before.before.before.push-k.auto.plan))
     (λ c. search rules)
     (λ c.
     let s = c.before.before.before.before.before.before.before.before.before.before.before.before.before in

@@ -1,6 +1,7 @@
 -- `uk_plan::unit_word` meets its contract.
 -- Assumes nothing.
 use borrow.Author.Rules.{rules}
+use Rattle.uk.specs.Ukrainian.{unit_form}
 use Rattle.plan.proofs.Tells.{quiet, retell, told_word}
 use Rattle.uk.specs.Pool.{uk_pool}
 use Rattle.uk_plan.proofs.Cases.{opt_none, opt_some}
@@ -12,7 +13,7 @@ pub unit_word_spec : {M : Type 1} → statement M
 unit_word_spec =
     tie.close
     (tie.spec
-    (λ c. retell 1 (quiet 1 _ _) (omega arith) (opt_none _ _ c.if-u-eq0.true))
+    (λ c. retell 1 (quiet 1 _ _) (omega arith) (opt_none (unit_form c.before.before.args.settings) _ c.if-u-eq0.true))
     (λ c κs. search rules) (λ c κs. search rules)
     (λ c. search rules)
-    (λ c. retell 1 (told_word (c.before.before.push.ensures uk_pool) c.before.before.before.unit.ensures) (omega arith) (opt_some _ _ c.before.before.before.before.before.if-u-eq0.false)))
+    (λ c. retell 1 (told_word (c.before.before.push.ensures uk_pool) c.before.before.before.unit.ensures) (omega arith) (opt_some (unit_form c.before.before.before.before.before.before.before.args.settings) _ c.before.before.before.before.before.if-u-eq0.false)))

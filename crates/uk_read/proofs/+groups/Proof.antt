@@ -47,7 +47,7 @@ pub +groups_spec : {M : Type 1} → statement M
     let p = c.before.groups-below.ensures in
     let o = c.before.before.before.before.if-order-k.true in
     let x = s.args.out.now in
-    let y = c.before.groups-below.new.1.1.0 in
+    let y = c.before.groups-below.new.out in
     let k = s.args.k in
     let z = s.requires.1.1 in
     let a = g.result.order in

@@ -23,7 +23,7 @@ abbrev decreases-loop : tie.decreases-loop-at
 decreases-loop s value₀ at₀ value at = length s - at
 
 -- what is known once the word at the loop's place was looked up
-known : (c : tie.After-meaning invariant-loop decreases-loop) → let at = c.before.before.before.before.loop-at.at in let s = c.before.before.before.before.before.before.args.s.now in
+known : (c : tie.After-meaning-m invariant-loop decreases-loop) → let at = c.before.before.before.before.loop-at.at in let s = c.before.before.before.before.before.before.args.s.now in
     (c.meaning-m.result ≡ mean (first_word (from at s))) × (split (drop at s) ≡ first_word (from at s) ∷ split (drop (at + c.before.first-t.result.next) s))
     × (at + c.before.first-t.result.next ≤ length s) × (0 < c.before.first-t.result.next)
 known c =

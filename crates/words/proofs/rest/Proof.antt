@@ -14,5 +14,5 @@ rest_spec =
     tie.close
     (tie.spec
     (λ c. search rules) (λ c. search rules) (λ c. search rules) (λ c. search rules)
-    (λ c. let a = c.before.before.args in take_all (length a.pool.now - a.at) (drop a.at a.pool.now) (rw (length-drop a.at a.pool.now) (omega arith)))
-    (λ c. let a = c.before.before.args in sym (drop_of_length-le a.pool.now {i = a.at} (omega (arith, c.before.if-at-pool.false)))))
+    (λ c. let a = c.before.args in take_all (length a.pool.now - a.at) (drop a.at a.pool.now) (rw (length-drop a.at a.pool.now) (omega arith)))
+    (λ c. let a = c.before.args in sym (drop_of_length-le a.pool.now {i = a.at} (omega (arith, c.if-at-pool.false)))))

@@ -11,7 +11,7 @@ sub-e c = pointed_size c.before.before.before.args.s.now (sym c.before.is_pointe
 
 returns : tie.Need-returns-then-is_pointed
 returns c =
-    let p : pointed c.before.before.before.before.args.s.now ≡ true = sym c.before.before.is_pointed.ensures ∙ c.before.if-is_pointed.true in
+    let p : pointed c.before.before.before.args.s.now ≡ true = sym c.before.is_pointed.ensures ∙ c.if-is_pointed.true in
     rw p
 
 returns-2 : tie.Need-returns-else-is_pointed

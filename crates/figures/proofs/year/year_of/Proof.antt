@@ -16,31 +16,31 @@ value-of-requires c κs =
     )
 
 -- the digits mean the text's magnitude
-means : (c : tie.After-value-of) → c.value_of_lem.result ≡ value (unsigned c.before.before.before.args.s.now)
-means c = c.value_of_lem.ensures ∙ ap value c.before.after_sign.ensures
+means : (c : tie.After-value_of-v) → c.value_of-v.result ≡ value (unsigned c.before.before.before.args.s.now)
+means c = c.value_of-v.ensures ∙ ap value c.before.after_sign.ensures
 
 -- after a '-'
-module _ (c : tie.Then1) where
+module _ (c : tie.Then-is_negative) where
   minus : negative c.before.before.before.before.before.args.s.now ≡ true
   minus = sym c.before.is_negative.ensures ∙ c.if-is_negative.true
 
 -- and above the lowest year
-small : (c : tie.Else2) → c.before.before.before.value_of_lem.result < 2 ^ 63
+small : (c : tie.Else-v) → c.before.before.before.value_of-v.result < 2 ^ 63
 small c =
     let v = c.before.before.before in
     let s = v.before.before.before in
-    limit_minus (negative s.args.s.now) v.value_of_lem.result (minus c.before) (rw (means v) s.requires.1) c.if-v.false
+    limit_minus (negative s.args.s.now) v.value_of-v.result (minus c.before) (rw (means v) s.requires.1) c.if-v.false
 
 -- with no '-'
-module _ (c : tie.Else1) where
+module _ (c : tie.Else-is_negative) where
   plain : negative c.before.before.before.before.before.args.s.now ≡ false
   plain = sym c.before.is_negative.ensures ∙ c.if-is_negative.false
 
-  small_plain : c.before.before.value_of_lem.result < 2 ^ 63
+  small_plain : c.before.before.value_of-v.result < 2 ^ 63
   small_plain =
       let v = c.before.before in
       let s = v.before.before.before in
-      limit_plain (negative s.args.s.now) v.value_of_lem.result plain (rw (means v) s.requires.1)
+      limit_plain (negative s.args.s.now) v.value_of-v.result plain (rw (means v) s.requires.1)
 
 returns : tie.Need-returns-then-v
 returns c =
@@ -50,14 +50,14 @@ returns c =
 returns-2 : tie.Need-returns-else-v
 returns-2 c =
     let v = c.before.before.before in
-    minus_reads v.value_of_lem.result (small c) ∙
+    minus_reads v.value_of-v.result (small c) ∙
     ap (λ (n : ℕ). neg_ℤ (pos n)) (means v) ∙
     sym (year_minus v.before.before.before.args.s.now (minus c.before))
 
 returns-3 : tie.Need-returns-else-is_negative
 returns-3 c =
     let v = c.before.before in
-    small_reads v.value_of_lem.result (small_plain c) ∙ ap (λ (n : ℕ). pos n) (means v) ∙ sym (year_plain v.before.before.before.args.s.now (plain c))
+    small_reads v.value_of-v.result (small_plain c) ∙ ap (λ (n : ℕ). pos n) (means v) ∙ sym (year_plain v.before.before.before.args.s.now (plain c))
 
 pub year_of_spec : {M : Type 1} → statement M
 year_of_spec =
@@ -66,9 +66,9 @@ year_of_spec =
     (λ c κs. search rules)
     value-of-requires
     (λ c κs. search rules)
-    (λ c. small_fits c.before.before.before.value_of_lem.result (small c))
-    (λ c. minus_fits c.before.before.before.value_of_lem.result (small c))
-    (λ c. small_fits c.before.before.value_of_lem.result (small_plain c))
+    (λ c. small_fits c.before.before.before.value_of-v.result (small c))
+    (λ c. minus_fits c.before.before.before.value_of-v.result (small c))
+    (λ c. small_fits c.before.before.value_of-v.result (small_plain c))
     returns
     returns-2
     returns-3)

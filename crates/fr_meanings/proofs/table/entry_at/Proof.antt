@@ -199,4 +199,4 @@ entry_at_spec =
     (λ c. found table c.in-251.is refl)
     (λ c. found table c.in-253.is refl)
     (λ c. found table c.in-255.is refl)
-    (λ c. missed _ table c.in_default.rest))
+    (λ c. missed _ table c.in_default.in_default-own.rest))

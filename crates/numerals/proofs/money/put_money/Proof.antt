@@ -21,7 +21,7 @@ put-text-requires c κs =
     (s.requires.0, (s.requires.1.0, (omega (arith, s.requires.1.1), omega (arith, s.requires.1.1))))
 
 -- with hundredths, w is three more than the length of the whole part
-module _ (c : tie.Else1) where
+module _ (c : tie.Else-h-eq0) where
   whole : c.before.before.before.args.w ≡ length (decimal (total c.before.before.before.args.g.now)) + 3
   whole =
       let s = c.before.before.before in
@@ -36,7 +36,7 @@ put-hundredths-requires : tie.Need-put_hundredths-requires
 put-hundredths-requires c κs =
     let e = c.before.before.before.before.before in
     let s = e.before.before.before in
-    (s.requires.1.1.0.1, simp (length-take, length-drop) (omega (arith, whole e, s.requires.1.1.1, c.before.before.before.put_text-else-h-eq0.auto.1.0)))
+    (s.requires.1.1.0.1, simp (length-take, length-drop) (omega (arith, whole e, s.requires.1.1.1, c.before.before.before.put_text-else-h-eq0.auto.out)))
 
 returns : tie.Need-returns-then-h-eq0
 returns c =
@@ -51,7 +51,7 @@ returns-2 c =
     let s = e.before.before.before in
     let p = c.before.before.put_hundredths in
     let n : ℕ = total s.args.g.now in
-    wrote (s.args.w - 3) s.args.out.now (decimal n) (46 ∷ fixed 2 s.args.h) t.new.1.0 p.new.1.0 (omega (arith, whole e)) t.ensures p.ensures ∙
+    wrote (s.args.w - 3) s.args.out.now (decimal n) (46 ∷ fixed 2 s.args.h) t.new.out p.new.out (omega (arith, whole e)) t.ensures p.ensures ∙
     sym (ap (over s.args.out.now) (money_some n s.args.h e.if-h-eq0.false))
 
 pub put_money_spec : {M : Type 1} → statement M

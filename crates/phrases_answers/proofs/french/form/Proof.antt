@@ -11,9 +11,9 @@ form_spec =
     tie.close
     (tie.spec
     (λ c. search rules) (λ c κs. search rules) (λ c. search rules) (λ c κs. search rules) (λ c. search rules) (λ c κs. search rules) (λ c. search rules) (λ c κs. search rules) (λ c. search rules) (λ c κs. search rules) (λ c. search rules) (λ c κs. search rules)
-    (λ c. search rules) (λ c. rw c.before.before.before.before.enum_told.given.1 c.before.before.card.ensures)
-    (λ c. search rules) (λ c. rw c.before.before.before.before.enum-told2.given.1 c.before.before.ord.ensures)
-    (λ c. search rules) (λ c. rw c.before.before.before.before.enum-told3.given.1 c.before.before.bad.ensures)
-    (λ c. search rules) (λ c. rw c.before.before.before.before.enum-told4.given.1 c.before.before.bad2.ensures)
-    (λ c. search rules) (λ c. rw c.before.before.before.before.enum-told5.given.1 c.before.before.bad3.ensures)
-    (λ c. search rules) (λ c. rw c.before.before.before.before.enum-told6.given.1 c.before.before.bad4.ensures))
+    (λ c. search rules) (λ c. rw c.before.before.before.before.enum_told-1.given.1 c.before.before.card.ensures)
+    (λ c. search rules) (λ c. rw c.before.before.before.before.enum_told-in-Ord-1.given.1 c.before.before.ord.ensures)
+    (λ c. search rules) (λ c. rw c.before.before.before.before.enum_told-in-Num-1.given.1 c.before.before.bad.ensures)
+    (λ c. search rules) (λ c. rw c.before.before.before.before.enum_told-in-Year-1.given.1 c.before.before.bad-in-Year.ensures)
+    (λ c. search rules) (λ c. rw c.before.before.before.before.enum_told-in-Money-1.given.1 c.before.before.bad-in-Money.ensures)
+    (λ c. search rules) (λ c. rw c.before.before.before.before.enum_told-in-Other-1.given.1 c.before.before.bad-in-Other.ensures))

@@ -13,7 +13,7 @@ unfolding ukrainian_left
 money_spec =
     tie.close
     (tie.spec (λ c κs. search rules)
-    (λ c. simp length-take (omega (arith, c.before.cut.ensures.1.0)))
+    (λ c. simp length-take (omega (arith, c.before.cut-k.ensures.1.0)))
     (λ c. search rules) (λ c. search rules) (λ c. search rules) (λ c κs. search rules) (λ c. search rules)
-    (λ c. let s = c.before.before.before.before.before.before.before.before.before.args.s.now in let k = c.before.before.before.before.before.before.cut in
+    (λ c. let s = c.before.before.before.before.before.before.before.before.before.args.s.now in let k = c.before.before.before.before.before.before.cut-k in
     rw (← k.ensures.0.0, ← k.ensures.0.1, ← tail k.result.next s) c.before.before.amount.ensures))

@@ -15,9 +15,9 @@ unfolding ukrainian_left
 year_spec =
     tie.close
     (tie.spec (λ c κs. search rules)
-    (λ c. closed_some c.before.before.before.before.args.s.now (sym c.before.is_closed.ensures ∙ c.if1.true))
+    (λ c. closed_some c.before.before.before.before.args.s.now (sym c.before.is_closed.ensures ∙ c.if-is_closed.true))
     (λ c. simp length-take (omega arith))
     (λ c κs. search rules) (λ c. search rules)
-    (λ c. spoken_as (closed c.before.before.before.before.before.before.before.before.before.args.s.now) _ _ _ _ (sym c.before.before.before.before.before.before.is_closed.ensures ∙ c.before.before.before.before.before.if1.true) c.before.before.say_year.ensures)
+    (λ c. spoken_as (closed c.before.before.before.before.before.before.before.before.before.args.s.now) _ _ _ _ (sym c.before.before.before.before.before.before.is_closed.ensures ∙ c.before.before.before.before.before.if-is_closed.true) c.before.before.say_year.ensures)
     (λ c κs. search rules) (λ c. search rules)
-    (λ c. unspoken (closed c.before.before.before.before.before.before.before.before.args.s.now) _ _ _ _ (sym c.before.before.before.before.before.is_closed.ensures ∙ c.before.before.before.before.if1.false) c.before.before.bad.ensures))
+    (λ c. unspoken (closed c.before.before.before.before.before.before.before.before.args.s.now) _ _ _ _ (sym c.before.before.before.before.before.is_closed.ensures ∙ c.before.before.before.before.if-is_closed.false) c.before.before.bad.ensures))

@@ -11,5 +11,5 @@ pub is_spec : {M : Type 1} → statement M
 is_spec =
     tie.close
     (tie.spec (λ c κs. search rules)
-    (λ c. let a = c.before.before.before.before.args in c.begins.ensures ∙ same_front a.w.now a.s.now c.before.if1.true)
-    (λ c. let a = c.before.before.before.args in sym (other_length a.w.now a.s.now c.if1.false)))
+    (λ c. let a = c.before.before.before.before.args in c.begins.ensures ∙ same_front a.w.now a.s.now c.before.if-s-w.true)
+    (λ c. let a = c.before.before.before.args in sym (other_length a.w.now a.s.now c.if-s-w.false)))

@@ -10,6 +10,6 @@ place2_spec =
     tie.close
     (tie.spec (λ c κs. search rules)
     (λ c κs. search rules)
-    (λ c. rw (sym c.before.is.ensures ∙ c.if1.true) refl)
-    (λ c. rw (sym c.before.before.before.is.ensures ∙ c.before.before.if1.false, sym c.before.is2.ensures ∙ c.if2.true) refl)
-    (λ c. rw (sym c.before.before.before.is.ensures ∙ c.before.before.if1.false, sym c.before.is2.ensures ∙ c.if2.false) refl))
+    (λ c. rw (sym c.before.is.ensures ∙ c.if-is.true) refl)
+    (λ c. rw (sym c.before.before.before.is.ensures ∙ c.before.before.if-is.false, sym c.before.is-else-is.ensures ∙ c.if-is-2.true) refl)
+    (λ c. rw (sym c.before.before.before.is.ensures ∙ c.before.before.if-is.false, sym c.before.is-else-is.ensures ∙ c.if-is-2.false) refl))

@@ -11,7 +11,7 @@ pub place3_spec : {M : Type 1} → statement M
 place3_spec =
     tie.close
     (tie.spec (λ c κs. search rules)
-    (λ c. let x = c.before.before.before.before.before.before.args in early (same_text x.a.now x.s.now) (same_text x.b.now x.s.now) _ _ c.before.place2.ensures c.if1.true)
+    (λ c. let x = c.before.before.before.before.before.before.args in early (same_text x.a.now x.s.now) (same_text x.b.now x.s.now) _ _ c.before.place2-p.ensures c.if-p-lt2.true)
     (λ c κs. search rules)
-    (λ c. let x = c.before.before.before.before.before.before.before.before.args in rw (sym c.before.is.ensures ∙ c.if2.true) (late (same_text x.a.now x.s.now) (same_text x.b.now x.s.now) 2 _ c.before.before.before.place2.ensures c.before.before.if1.false))
-    (λ c. let x = c.before.before.before.before.before.before.before.before.args in rw (sym c.before.is.ensures ∙ c.if2.false) (late (same_text x.a.now x.s.now) (same_text x.b.now x.s.now) 3 _ c.before.before.before.place2.ensures c.before.before.if1.false)))
+    (λ c. let x = c.before.before.before.before.before.before.before.before.args in rw (sym c.before.is.ensures ∙ c.if-is.true) (late (same_text x.a.now x.s.now) (same_text x.b.now x.s.now) 2 _ c.before.before.before.place2-p.ensures c.before.before.if-p-lt2.false))
+    (λ c. let x = c.before.before.before.before.before.before.before.before.args in rw (sym c.before.is.ensures ∙ c.if-is.false) (late (same_text x.a.now x.s.now) (same_text x.b.now x.s.now) 3 _ c.before.before.before.place2-p.ensures c.before.before.if-p-lt2.false)))

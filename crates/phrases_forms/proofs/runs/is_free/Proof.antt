@@ -9,6 +9,6 @@ pub is_free_spec : {M : Type 1} → statement M
 is_free_spec =
     tie.close
     (tie.spec
-    (λ c. rw (eq-eqb _ _ c.if1.true) refl)
-    (λ c. rw (ne_eqb _ _ c.before.if1.false, eq-eqb _ _ c.if2.true) refl)
-    (λ c. rw (ne_eqb _ _ c.before.if1.false, ne_eqb _ _ c.if2.false) refl))
+    (λ c. rw (eq-eqb _ _ c.if-b-eq32.true) refl)
+    (λ c. rw (ne_eqb _ _ c.before.if-b-eq32.false, eq-eqb _ _ c.if-b-eq40.true) refl)
+    (λ c. rw (ne_eqb _ _ c.before.if-b-eq32.false, ne_eqb _ _ c.if-b-eq40.false) refl))

@@ -11,9 +11,9 @@ use Rattle.phrases_forms.proofs.settings.three_words.Tie as tie
 returns : tie.Need-returns
 returns c =
     let s = c.before.before.before.before.before.before.before.before.before.before.args.s.now in
-    let x = c.before.before.before.before.before.before.before.before.cut in
-    let y = c.before.before.before.before.before.before.cut2 in
-    let z = c.before.before.before.cut3 in
+    let x = c.before.before.before.before.before.before.before.before.cut-x in
+    let y = c.before.before.before.before.before.before.cut-y in
+    let z = c.before.before.before.cut-z in
     let p = x.result.next in
     let d = x.ensures.0.1 in
     let h = x.ensures.1.1 in

@@ -23,7 +23,7 @@ abbrev decreases-loop : tie.decreases-loop-i
 decreases-loop tally from to whole₀ hundredths₀ i₀ whole hundredths i = to - i
 
 -- in the loop there is one more place
-more : (c : tie.In-loop invariant-loop decreases-loop) →
+more : (c : tie.In-loop-i invariant-loop decreases-loop) →
     let a = c.before.before.before.before.before.args in
     let i = c.before.loop-i.i in
     let ps = drop a.from (places_of a.tally.now) in
@@ -39,7 +39,7 @@ more c =
     (drop-drop j a.from ps ∙ rw e (places_at a.tally.now i c.before.before.before.before.before.requires.2 (omega arith)))
 
 -- the byte of its hundredths
-byte : (c : tie.In-loop invariant-loop decreases-loop) → (place_read c.before.before.before.before.before.args.tally.now c.before.loop-i.i).hundredths < 256
+byte : (c : tie.In-loop-i invariant-loop decreases-loop) → (place_read c.before.before.before.before.before.args.tally.now c.before.loop-i.i).hundredths < 256
 byte c = omega (arith, c.before.before.before.before.shared_slice_known-1.given (5 + c.before.loop-i.i * 13 + 12))
 
 returns : tie.Need-returns-then-not-sum invariant-loop decreases-loop

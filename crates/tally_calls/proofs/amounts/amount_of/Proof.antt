@@ -14,7 +14,7 @@ use Rattle.tally_calls.proofs.amounts.amount_of.Statement.{statement}
 use Rattle.tally_calls.proofs.amounts.amount_of.Tie as tie
 
 -- the digits of the whole part
-whole_is : (c : tie.After-after-sign) → c.after_sign.result.now ≡ unsigned (whole_text c.before.before.before.args.text.now)
+whole_is : (c : tie.After-after_sign) → c.after_sign.result.now ≡ unsigned (whole_text c.before.before.before.args.text.now)
 whole_is c = c.after_sign.ensures ∙ ap unsigned c.before.whole_part.ensures
 
 value-of-requires : tie.Need-value_of-whole-requires
@@ -31,14 +31,14 @@ value-of-requires-2 c κs =
     (ap digits e ∙ hundredths_digits t s.requires, rw e (lt_trans (hundredths_small t s.requires) (lit< tt)))
 
 -- the hundredths are the text's, and below 100
-part_is : (c : tie.After-value-of2) → c.value_of-hundredths.result ≡ hundredths_of c.before.before.before.before.before.before.args.text.now
+part_is : (c : tie.After-value_of-hundredths) → c.value_of-hundredths.result ≡ hundredths_of c.before.before.before.before.before.before.args.text.now
 part_is c = c.value_of-hundredths.ensures ∙ ap value c.before.hundredths_part.ensures
 
-small : (c : tie.After-value-of2) → c.value_of-hundredths.result < 100
+small : (c : tie.After-value_of-hundredths) → c.value_of-hundredths.result < 100
 small c = let s = c.before.before.before.before.before.before in rw (part_is c) (hundredths_small s.args.text.now s.requires)
 
 returns : tie.Need-returns
-returns c = (search rules, c.before.before.value_of_lem.ensures ∙ ap value (whole_is c.before.before.before), part_is c, small c)
+returns c = (search rules, c.before.before.value_of-whole.ensures ∙ ap value (whole_is c.before.before.before), part_is c, small c)
 
 pub amount_of_spec : {M : Type 1} → statement M
 amount_of_spec =

@@ -24,17 +24,17 @@ few w n h t = go (dec_lt 7 n)
     go (no q) = omega arith
 
 -- the groups that are stored, and the whole part that they make up
-module _ (c : tie.After-plan) where
+module _ (c : tie.After-plan-1) where
   abbrev whole : ℕ
   whole = c.before.before.before.before.before.before.args.whole
 
-  groups-are : c.before.before.before.groups_from-n.new.1.0 ≡ groups_of 22 whole
+  groups-are : c.before.before.before.groups_from-n.new.out ≡ groups_of 22 whole
   groups-are = c.before.before.before.groups_from-n.ensures.0
 
   bits : whole < 2 ^ 64
   bits = omega arith
 
-  whole_is : total c.before.before.before.groups_from-n.new.1.0 ≡ whole
+  whole_is : total c.before.before.before.groups_from-n.new.out ≡ whole
   whole_is = ap total groups-are ∙ total_groups 22 whole (lt_trans bits (lit< tt))
 
 plan-money-requires : tie.Need-plan_money-k-requires

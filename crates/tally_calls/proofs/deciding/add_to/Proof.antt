@@ -17,7 +17,7 @@ use Rattle.tally_calls.proofs.deciding.add_to.Tie as tie
 abbrev asked : tie.Start → Settings
 asked s = ukrainian_settings s.args.gender s.args.number s.args.case s.args.apostrophe s.args.style
 
-in_ranges : (c : tie.Then1) → within (ukrainian_ranges (asked c.before.before.before.before.before)) ≡ true
+in_ranges : (c : tie.Then-is_ukrainian) → within (ukrainian_ranges (asked c.before.before.before.before.before)) ≡ true
 in_ranges c = sym c.before.is_ukrainian.ensures ∙ c.if-is_ukrainian.true
 
 add-amount-requires : tie.Need-add_amount-requires
@@ -25,7 +25,7 @@ add-amount-requires c κs =
     let n = c.before.before.before in
     let b = n.before.before.before in
     let t = b.currency_of-currency.ensures.0 n.before.before.if-currency-lt-CURRENCIES.true in
-    let refusal = n.number_of_lem.ensures ∙ n.before.judge_amount.ensures in
+    let refusal = n.number_of-n.ensures ∙ n.before.judge_amount.ensures in
     (rw c.before.ukrainian-settings.ensures (within_holds (ukrainian_ranges (asked b.before.before.before.before.before.before)) (in_ranges b.before)), n.before.before.if-currency-lt-CURRENCIES.true, t.0, sym refusal ∙ c.before.before.if-n-eq0.true, t.1)
 
 returns : tie.Need-returns-then-n-eq0
@@ -39,7 +39,7 @@ returns-2 c =
     let n = c.before.before in
     let b = n.before.before.before in
     let s = b.before.before.before.before.before.before in
-    let refusal = n.number_of_lem.ensures ∙ n.before.judge_amount.ensures in
+    let refusal = n.number_of-n.ensures ∙ n.before.judge_amount.ensures in
     let e = adds_text (asked s) (in_ranges b.before) (tally_at b.currency_of-currency.result s.args.tally.now) s.args.text.now (λ z. c.before.if-n-eq0.false (refusal ∙ z)) in
     decides_refused _ _ c.unchanged.ensures c.before.if-n-eq0.false _ _ _ (rw (b.currency_of-currency.ensures.0 n.before.before.if-currency-lt-CURRENCIES.true).2 (e ∙ sym refusal))
 

@@ -17,7 +17,7 @@ use Rattle.tally_calls.proofs.deciding.remove_from.Tie as tie
 abbrev asked : tie.Start → Settings
 asked s = ukrainian_settings s.args.gender s.args.number s.args.case s.args.apostrophe s.args.style
 
-in_ranges : (c : tie.Then1) → within (ukrainian_ranges (asked c.before.before.before.before)) ≡ true
+in_ranges : (c : tie.Then-is_ukrainian) → within (ukrainian_ranges (asked c.before.before.before.before)) ≡ true
 in_ranges c = sym c.before.is_ukrainian.ensures ∙ c.if-is_ukrainian.true
 
 remove-item-requires : tie.Need-remove_item-requires

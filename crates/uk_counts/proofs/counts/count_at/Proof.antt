@@ -55,4 +55,4 @@ count_at_spec =
     (λ c. found counts c.in-61.is refl)
     (λ c. found counts c.in-62.is refl)
     (λ c. found counts c.in-63.is refl)
-    (λ c. missed _ counts c.in_default.rest))
+    (λ c. missed _ counts c.in_default.in_default-own.rest))

@@ -53,4 +53,4 @@ lead_at_spec =
     (λ c. found leads c.in-97.is refl)
     (λ c. found leads c.in-98.is refl)
     (λ c. found leads c.in-99.is refl)
-    (λ c. missed _ leads c.in_default.rest))
+    (λ c. missed _ leads c.in_default.in_default-own.rest))

@@ -174,4 +174,4 @@ place_spec =
     (λ c. found hundred_places c.in-159.is refl)
     (λ c. found hundred_places c.in-160.is refl)
     (λ c. found hundred_places c.in-161.is refl)
-    (λ c. missed _ hundred_places c.in_default.rest))
+    (λ c. missed _ hundred_places c.in_default.in_default-own.rest))

@@ -156,4 +156,4 @@ place_spec =
     (λ c. found ten_places c.in-141.is refl)
     (λ c. found ten_places c.in-142.is refl)
     (λ c. found ten_places c.in-143.is refl)
-    (λ c. missed _ ten_places c.in_default.rest))
+    (λ c. missed _ ten_places c.in_default.in_default-own.rest))

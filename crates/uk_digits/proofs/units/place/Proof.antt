@@ -138,4 +138,4 @@ place_spec =
     (λ c. found unit_places c.in-123.is refl)
     (λ c. found unit_places c.in-124.is refl)
     (λ c. found unit_places c.in-125.is refl)
-    (λ c. missed _ unit_places c.in_default.rest))
+    (λ c. missed _ unit_places c.in_default.in_default-own.rest))

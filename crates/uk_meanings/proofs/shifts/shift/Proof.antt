@@ -76,4 +76,4 @@ shift_spec =
     (λ c. found shifts c.in-61.is refl)
     (λ c. found shifts c.in-62.is refl)
     (λ c. found shifts c.in-63.is refl)
-    (λ c. missed _ shifts c.in_default.rest))
+    (λ c. missed _ shifts c.in_default.in_default-own.rest))

@@ -393,4 +393,4 @@ entry_at_spec =
     (λ c. found table c.in-509.is refl)
     (λ c. found table c.in-510.is refl)
     (λ c. found table c.in-511.is refl)
-    (λ c. missed _ table c.in_default.rest))
+    (λ c. missed _ table c.in_default.in_default-own.rest))

@@ -56,4 +56,4 @@ place_spec =
     (λ c. found c.in-22370645.is refl)
     (λ c. found c.in-21253718.is refl)
     (λ c. found c.in-22167898.is refl)
-    (λ c. sym (missed _ currencies c.in_default.rest)))
+    (λ c. sym (missed _ currencies c.in_default.in_default-own.rest)))

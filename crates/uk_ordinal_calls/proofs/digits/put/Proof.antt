@@ -21,20 +21,20 @@ returns c =
     let s = c.before.before.before.before.before.before.before.before.before.before in
     let p = c.before.before.before.before.before.before.copy-n in (
       omega (arith, size_is s.args.text.now (part short_pool s.args.ending), p.ensures.0, c.before.before.put_short-m.ensures.0),
-      hyphened s.args.out.now s.args.text.now (part short_pool s.args.ending) p.new.1.0 _ p.result p.ensures.0 p.ensures.1 (omega (arith, room s)) c.before.before.put_short-m.ensures.1,
+      hyphened s.args.out.now s.args.text.now (part short_pool s.args.ending) p.new.out _ p.result p.ensures.0 p.ensures.1 (omega (arith, room s)) c.before.before.put_short-m.ensures.1,
     )
 
 pub put_spec : {M : Type 1} → statement M
 put_spec =
     tie.close
     (tie.spec (λ c κs. (omega (arith, c.before.before.before.requires.0), omega (arith, room c.before.before.before)))
-    (λ c. omega (arith, room c.before.before.before.before.before.before, c.before.before.copy-n.ensures.0, c.before.before.copy-n.auto.1.0))
+    (λ c. omega (arith, room c.before.before.before.before.before.before, c.before.before.copy-n.ensures.0, c.before.before.copy-n.auto.out))
     (λ c. search rules)
-    (λ c. simp length-set (omega (arith, room c.before.before.before.before.before.before, c.before.before.copy-n.ensures.0, c.before.before.copy-n.auto.1.0)))
-    (λ c. simp length-set (omega (arith, room c.before.before.before.before.before.before, c.before.before.copy-n.ensures.0, c.before.before.copy-n.auto.1.0)))
+    (λ c. simp length-set (omega (arith, room c.before.before.before.before.before.before, c.before.before.copy-n.ensures.0, c.before.before.copy-n.auto.out)))
+    (λ c. simp length-set (omega (arith, room c.before.before.before.before.before.before, c.before.before.copy-n.ensures.0, c.before.before.copy-n.auto.out)))
     (λ c. search rules)
-    (λ c κs. let p = c.before.before.before.copy-n in let ys = set p.new.1.0 p.result 45 in
-    omega (arith, room c.before.before.before.before.before.before.before, p.ensures.0, p.auto.1.0, from_length (p.result + 1) ys, length-set p.new.1.0 p.result 45))
+    (λ c κs. let p = c.before.before.before.copy-n in let ys = set p.new.out p.result 45 in
+    omega (arith, room c.before.before.before.before.before.before.before, p.ensures.0, p.auto.out, from_length (p.result + 1) ys, length-set p.new.out p.result 45))
     (λ c. omega (arith, room c.before.before.before.before.before.before.before.before.before.before, c.before.before.before.before.before.before.copy-n.ensures.0, c.before.before.put_short-m.ensures.0, c.before.before.before.before.before.before.before.before.before.before))
-    (λ c. let p = c.before.before.before.before.before.before.copy-n in c.before.out-2-1.given.1 ∙ length-set p.new.1.0 p.result 45 ∙ p.auto.1.0)
+    (λ c. let p = c.before.before.before.before.before.before.copy-n in c.before.out-2-1.given.1 ∙ length-set p.new.out p.result 45 ∙ p.auto.out)
     returns)

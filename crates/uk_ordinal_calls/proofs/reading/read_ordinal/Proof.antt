@@ -14,7 +14,7 @@ returns c =
     let a = c.before.before.before.before.before.before.before.before.before.args in
     let v = c.before.before.before.before.before.before.before.before.before.requires in
     answered_so (ordinal_texts a.settings v)
-    (read_right (SaysOrdinal a.settings) _ v a.said.now _ a.out-1.now _ _ (ordinal_bounded a.settings a.said.now) _ c.before.before.before.before.before.read_ordinal-read.ensures.0.0 c.before.before.put_read.ensures)
+    (read_right (SaysOrdinal a.settings) _ v a.said.now _ a.out.now _ _ (ordinal_bounded a.settings a.said.now) _ c.before.before.before.before.before.read_ordinal-read.ensures.0.0 c.before.before.put_read.ensures)
 
 pub read_ordinal_spec : {M : Type 1} → statement M
 read_ordinal_spec =

@@ -14,7 +14,7 @@ returns c =
     let a = c.before.before.before.before.before.before.before.before.before.args in
     let v = c.before.before.before.before.before.before.before.before.before.requires in
     answered_so (year_texts a.settings v)
-    (read_right (SaysYear a.settings) _ v a.said.now _ a.out-1.now _ _ (year_bounded a.settings a.said.now) _ c.before.before.before.before.before.read_year-read.ensures.0.0 c.before.before.put_read.ensures)
+    (read_right (SaysYear a.settings) _ v a.said.now _ a.out.now _ _ (year_bounded a.settings a.said.now) _ c.before.before.before.before.before.read_year-read.ensures.0.0 c.before.before.put_read.ensures)
 
 pub read_year_spec : {M : Type 1} → statement M
 read_year_spec =

@@ -87,4 +87,4 @@ entry_at_spec =
     (λ c. found table c.in-116.is refl)
     (λ c. found table c.in-118.is refl)
     (λ c. found table c.in-119.is refl)
-    (λ c. missed _ table c.in_default.rest))
+    (λ c. missed _ table c.in_default.in_default-own.rest))

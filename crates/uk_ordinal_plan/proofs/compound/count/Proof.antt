@@ -18,7 +18,7 @@ count_spec =
     (λ c. search rules)
     (λ c. rw c.before.before.before.before.if-h-eq0.true (rerun 3 c.before.before.count_low.ensures (omega arith) refl))
     (λ c κs. search rules) (λ c κs. search rules)
-    (λ c κs. let s = c.before.before.before.before.before.before.before.before in (s.requires.0, s.requires.2, s.requires.3, omega (arith, s.requires.4, (c.before.before.before.push-k.ensures uk_pool).near, c.before.before.before.push-k.auto.0)))
+    (λ c κs. let s = c.before.before.before.before.before.before.before.before in (s.requires.0, s.requires.2, s.requires.3, omega (arith, s.requires.4, (c.before.before.before.push-k.ensures uk_pool).near, c.before.before.before.push-k.auto.plan)))
     (λ c. search rules)
     (λ c.
     let s = c.before.before.before.before.before.before.before.before.before.before.before in

@@ -21,14 +21,14 @@ count_low_spec =
     (λ c. search rules)
     (λ c. rw c.before.before.before.before.if-t-eq0.true (rerun 2 c.before.before.count_unit.ensures (omega arith) refl))
     (λ c κs. search rules) (λ c κs. search rules) (λ c κs. search rules) (λ c κs. search rules)
-    (λ c κs. omega (arith, c.before.before.before.before.before.before.before.before.before.before.before.requires.3, (c.before.before.before.before.before.push-k.ensures uk_pool).near, c.before.before.before.before.before.push-k.auto.0))
+    (λ c κs. omega (arith, c.before.before.before.before.before.before.before.before.before.before.before.requires.3, (c.before.before.before.before.before.push-k.ensures uk_pool).near, c.before.before.before.before.before.push-k.auto.plan))
     (λ c. search rules)
     (λ c.
     let u = c.before.before.before.before.before.before.before.before.before.before.before.before.before.before.args.u in
     let e : 10 + u - 10 ≡ u = omega arith in
     rw (c.before.before.before.before.before.before.before.before.before.before.before.if-t-eq1.true, e) (run_ended (c.before.before.before.before.before.before.before.before.push-k.ensures uk_pool) (c.before.before.push.ensures uk_pool) c.before.before.before.before.before.before.before.before.before.teen.ensures (rw c.before.before.before.before.in_genitive.ensures.0 at c.before.before.before.teen_ending.ensures)))
     (λ c κs. search rules) (λ c κs. search rules)
-    (λ c κs. let s = c.before.before.before.before.before.before.before.before.before in (s.requires.0, s.requires.2, omega (arith, s.requires.3, (c.before.before.before.push-k-2.ensures uk_pool).near, c.before.before.before.push-k-2.auto.0)))
+    (λ c κs. let s = c.before.before.before.before.before.before.before.before.before in (s.requires.0, s.requires.2, omega (arith, s.requires.3, (c.before.before.before.push-k-2.ensures uk_pool).near, c.before.before.before.push-k-2.auto.plan)))
     (λ c. search rules)
     (λ c.
     let s = c.before.before.before.before.before.before.before.before.before.before.before.before in

@@ -15,7 +15,7 @@ unfolding compound_digits
 count_unit_spec =
     tie.close
     (tie.spec
-    (λ c. rerun 1 (run_none _ 1 _ _) (omega arith) (opt_none _ _ c.if-u-eq0.true))
+    (λ c. rerun 1 (run_none _ 1 _ _) (omega arith) (opt_none (compound_digits c.before.before.args.settings).unit _ c.if-u-eq0.true))
     (λ c κs. search rules) (λ c κs. search rules)
     (λ c. search rules)
     (λ c. rw c.before.before.before.before.before.if-u-eq1.true (run_one (c.before.before.push.ensures uk_pool) c.before.before.before.one_base.ensures))

@@ -14,8 +14,8 @@ scale_spec =
     (tie.spec
     (λ c κs. search rules) (λ c κs. search rules)
     (λ c κs. search rules)
-    (λ c κs. omega (arith, c.before.before.before.before.before.before.before.before.requires.2, (c.before.before.before.before.push-a.ensures uk_pool).near, c.before.before.before.before.push-a.auto.0))
-    (λ c κs. omega (arith, c.before.before.before.before.before.before.before.before.before.before.before.before.requires.2, (c.before.before.before.before.before.before.before.before.push-a.ensures uk_pool).near, c.before.before.before.before.before.before.before.before.push-a.auto.0, (c.before.before.before.push-b.ensures uk_pool).near, c.before.before.before.push-b.auto.0))
+    (λ c κs. omega (arith, c.before.before.before.before.before.before.before.before.requires.2, (c.before.before.before.before.push-a.ensures uk_pool).near, c.before.before.before.before.push-a.auto.plan))
+    (λ c κs. omega (arith, c.before.before.before.before.before.before.before.before.before.before.before.before.requires.2, (c.before.before.before.before.before.before.before.before.push-a.ensures uk_pool).near, c.before.before.before.before.before.before.before.before.push-a.auto.plan, (c.before.before.before.push-b.ensures uk_pool).near, c.before.before.before.push-b.auto.plan))
     (λ c. search rules)
     (λ c.
     run_more 3 (run_more 2 (run_one (c.before.before.before.before.before.before.before.before.before.before.before.push-a.ensures uk_pool) c.before.before.before.before.before.before.before.before.before.before.before.before.scale.ensures) (run_one (c.before.before.before.before.before.before.push-b.ensures uk_pool) c.before.before.before.before.before.before.before.adjective_n.ensures) (omega arith))

@@ -28,7 +28,7 @@ scale_word_spec =
     respeak 6 (run_word c.before.before.scale.ensures (joined_some [] _ _)) (omega arith)
     (ap (λ w. w ∷ []) (bare_word a.settings (part uk_pool a.ending) rest a.order a.g (ap (λ (b : Bool). b && eqb a.g 1) (sym alone) ∙ sym c.before.before.before.before.before.is_bare.ensures ∙ c.before.before.before.before.if-is_bare.true))))
     (λ c κs. let s = c.before.before.before.before in (s.requires.0, omega arith, omega arith, omega arith, omega (arith, s.requires.5)))
-    (λ c κs. let s = c.before.before.before.before.before.before.before.before in (s.requires.1, s.requires.2, omega (arith, s.requires.5, c.before.before.before.count-k.ensures.said.added.near, c.before.before.before.count-k.auto.1.1.1.1.0)))
+    (λ c κs. let s = c.before.before.before.before.before.before.before.before in (s.requires.1, s.requires.2, omega (arith, s.requires.5, c.before.before.before.count-k.ensures.said.added.near, c.before.before.before.count-k.auto.plan)))
     (λ c. search rules)
     (λ c rest alone.
     let s = c.before.before.before.before.before.before.before.before.before.before.before in

@@ -18,7 +18,7 @@ plain_words_spec =
     (λ c. search rules)
     (λ c.
     let a = c.before.before.before.before.before.before.args in
-    respeak 4 c.before.before.round_word_lem.ensures (omega arith) (plain_hundred a.settings (part uk_pool a.ending) a.g c.before.before.before.before.if-g-eq0.true))
+    respeak 4 c.before.before.round_word.ensures (omega arith) (plain_hundred a.settings (part uk_pool a.ending) a.g c.before.before.before.before.if-g-eq0.true))
     (λ c κs. search rules) (λ c κs. search rules) (λ c κs. search rules)
     (λ c. search rules)
     (λ c.

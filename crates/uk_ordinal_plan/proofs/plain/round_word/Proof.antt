@@ -34,8 +34,8 @@ round_word_spec =
     let some : 0 < a.h = omega (arith, ltb-true 1 a.h (both_hold (school a.settings) (ltb 1 a.h) (sym c.before.before.counts_hundreds.ensures ∙ c.before.if-counts_hundreds.true)).1) in
     search rules)
     (λ c κs. search rules) (λ c κs. search rules)
-    (λ c κs. omega (arith, c.before.before.before.before.before.before.before.before.before.before.before.requires.2, (c.before.before.before.before.push-a.ensures uk_pool).near, c.before.before.before.before.push-a.auto.0))
-    (λ c κs. omega (arith, c.before.before.before.before.before.before.before.before.before.before.before.before.before.before.before.requires.2, (c.before.before.before.before.before.before.before.before.push-a.ensures uk_pool).near, c.before.before.before.before.before.before.before.before.push-a.auto.0, (c.before.before.before.push-b.ensures uk_pool).near, c.before.before.before.push-b.auto.0))
+    (λ c κs. omega (arith, c.before.before.before.before.before.before.before.before.before.before.before.requires.2, (c.before.before.before.before.push-a.ensures uk_pool).near, c.before.before.before.before.push-a.auto.plan))
+    (λ c κs. omega (arith, c.before.before.before.before.before.before.before.before.before.before.before.before.before.before.before.requires.2, (c.before.before.before.before.before.before.before.before.push-a.ensures uk_pool).near, c.before.before.before.before.before.before.before.before.push-a.auto.plan, (c.before.before.before.push-b.ensures uk_pool).near, c.before.before.before.push-b.auto.plan))
     (λ c. search rules)
     (λ c.
     let a = c.before.before.before.before.before.before.before.before.before.before.before.before.before.before.before.before.before.before.args in
@@ -45,7 +45,7 @@ round_word_spec =
     (joined_some [] _ _)) (omega arith)
     (ap (λ w. w ∷ []) (counted_hundred a.settings (part uk_pool a.ending) a.h (sym c.before.before.before.before.before.before.before.before.before.before.before.before.before.before.before.before.counts_hundreds.ensures ∙ c.before.before.before.before.before.before.before.before.before.before.before.before.before.before.before.if-counts_hundreds.true))))
     (λ c κs. search rules) (λ c κs. search rules)
-    (λ c κs. omega (arith, c.before.before.before.before.before.before.before.before.before.requires.2, (c.before.before.before.push-a-2.ensures uk_pool).near, c.before.before.before.push-a-2.auto.0))
+    (λ c κs. omega (arith, c.before.before.before.before.before.before.before.before.before.requires.2, (c.before.before.before.push-a-2.ensures uk_pool).near, c.before.before.before.push-a-2.auto.plan))
     (λ c. search rules)
     (λ c.
     let a = c.before.before.before.before.before.before.before.before.before.before.before.before.args in

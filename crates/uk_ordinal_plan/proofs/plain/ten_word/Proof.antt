@@ -15,7 +15,7 @@ unfolding ukrainian_digits
 ten_word_spec =
     tie.close
     (tie.spec
-    (λ c. retell 1 (quiet 1 _ _) (omega arith) (opt_none _ _ c.if-t-eq0.true))
+    (λ c. retell 1 (quiet 1 _ _) (omega arith) (opt_none (ukrainian_digits (in_nominative c.before.before.args.settings)).ten _ c.if-t-eq0.true))
     (λ c κs. search rules) (λ c κs. search rules) (λ c κs. search rules)
     (λ c. search rules)
     (λ c. retell 1 (told_word (c.before.before.push.ensures uk_pool) (rw c.before.before.before.before.in_nominative.ensures.0 at c.before.before.before.ten.ensures)) (omega arith) (opt_some (ukrainian_digits (in_nominative c.before.before.before.before.before.before.before.before.args.settings)).ten c.before.before.before.before.before.before.before.before.args.t c.before.before.before.before.before.before.if-t-eq0.false)))

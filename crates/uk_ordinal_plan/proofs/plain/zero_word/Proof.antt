@@ -13,6 +13,6 @@ zero_word_spec =
     tie.close
     (tie.spec
     (λ c κs. search rules) (λ c κs. search rules)
-    (λ c κs. omega (arith, c.before.before.before.before.before.before.before.requires, (c.before.before.before.push-a.ensures uk_pool).near, c.before.before.before.push-a.auto.0))
+    (λ c κs. omega (arith, c.before.before.before.before.before.before.before.requires, (c.before.before.before.push-a.ensures uk_pool).near, c.before.before.before.push-a.auto.plan))
     (λ c. search rules)
     (λ c. told_ended (c.before.before.before.before.before.before.push-a.ensures uk_pool) (c.before.before.push.ensures uk_pool) c.before.before.before.before.before.before.before.zero_base.ensures refl))

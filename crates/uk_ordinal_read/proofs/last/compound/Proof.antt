@@ -12,7 +12,7 @@ use Rattle.uk_ordinal_read.proofs.last.compound.Statement.{statement}
 use Rattle.uk_ordinal_read.proofs.last.compound.Tie as tie
 
 -- what stands behind the count
-means : (c : tie.After-meaning) → c.meaning-m.result ≡ stem_means (uncounted 4 c.before.before.before.before.before.args.stem.now)
+means : (c : tie.After-meaning-m) → c.meaning-m.result ≡ stem_means (uncounted 4 c.before.before.before.before.before.args.stem.now)
 means c =
     let s = c.before.before.before.before.before.args.stem.now in
     let n = c.before.before.before.count-c in

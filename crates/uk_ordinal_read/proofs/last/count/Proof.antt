@@ -20,7 +20,7 @@ abbrev decreases-loop : tie.decreases-loop-left
 decreases-loop s value₀ at₀ left₀ value at left = left
 
 -- the word at the loop's place, and where it ends
-known : (c : tie.After-count invariant-loop decreases-loop) → let at = c.before.before.before.loop-left.at in let s = c.before.before.before.before.before.args.s.now in
+known : (c : tie.After-count-c invariant-loop decreases-loop) → let at = c.before.before.before.loop-left.at in let s = c.before.before.before.before.before.args.s.now in
     (c.count-c.result ≡ count_of (drop at s)) × (at + c.count-c.result % 64 ≤ length s)
 known c =
     let at = c.before.before.before.loop-left.at in

@@ -17,11 +17,11 @@ ordinal_spec =
     (λ c κs. search rules)
     (λ c. search rules)
     (λ c.
-    let a = c.before.before.before.before.args in
-    let t = c.before.before.tail_size-tail in
-    ordinal_none a.settings a.early a.s.now t.result t.ensures c.before.if-n-tail.true)
-    (λ c. let s = c.before.before.before.before.args.s.now in sym (length-take-le (length s - c.before.before.tail_size-tail.result) s (omega arith)))
+    let a = c.before.before.before.args in
+    let t = c.before.tail_size-tail in
+    ordinal_none a.settings a.early a.s.now t.result t.ensures c.if-n-tail.true)
+    (λ c. let s = c.before.before.before.args.s.now in sym (length-take-le (length s - c.before.tail_size-tail.result) s (omega arith)))
     (λ c.
-    let a = c.before.before.before.before.args in
-    let t = c.before.before.tail_size-tail in
+    let a = c.before.before.before.args in
+    let t = c.before.tail_size-tail in
     ordinal_some a.settings a.early a.s.now t.result t.ensures))

@@ -12,19 +12,19 @@ use Rattle.uk_ordinal_read.proofs.year.tail_size.Statement.{statement}
 use Rattle.uk_ordinal_read.proofs.year.tail_size.Tie as tie
 
 -- the noun's length
-noun : (c : tie.After-len) → (c.len-noun.result ≡ length (year_noun c.before.before.args.settings)) × (c.len-noun.result < 40)
+noun : (c : tie.After-len-noun) → (c.len-noun.result ≡ length (year_noun c.before.before.args.settings)) × (c.len-noun.result < 40)
 noun c =
     let w = c.before.year_word in
     let t = year_noun c.before.before.args.settings in
     (text_length w.result c.len-noun.result t w.ensures c.len-noun.ensures, text_short w.result c.len-noun.result t w.ensures c.len-noun.ensures)
 
 -- those of the two words that early years add
-before-era : (c : tie.After-len2) → (c.len.result ≡ length (utf8 "до")) × (c.len.result < 40)
+before-era : (c : tie.After-len) → (c.len.result ≡ length (utf8 "до")) × (c.len.result < 40)
 before-era c =
     let w = c.before.before_era in
     (text_length w.result c.len.result (utf8 "до") w.ensures c.len.ensures, text_short w.result c.len.result (utf8 "до") w.ensures c.len.ensures)
 
-our-era : (c : tie.After-len3) → (c.len-then-early.result ≡ length (utf8 "н.е.")) × (c.len-then-early.result < 40)
+our-era : (c : tie.After-len-then-early) → (c.len-then-early.result ≡ length (utf8 "н.е.")) × (c.len-then-early.result < 40)
 our-era c =
     let w = c.before.our_era in
     (text_length w.result c.len-then-early.result (utf8 "н.е.") w.ensures c.len-then-early.ensures, text_short w.result c.len-then-early.result (utf8 "н.е.") w.ensures c.len-then-early.ensures)

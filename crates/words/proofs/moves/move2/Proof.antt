@@ -13,4 +13,4 @@ move2_spec =
     (λ c κs. search rules) (λ c κs. search rules) (λ c. search rules)
     (λ c.
     let a = c.before.before.before.before.before.before.before.args in
-    moved a.w.now (λ i. omega (arith, c.before.before.before.before.before.before.shared_slice_known-1.given i)) a.out-1.now _ a.at 2 _ c.before.before.before.before.get2.ensures.0 c.before.before.before.before.before.before.before.requires.0 c.before.before.put2.ensures))
+    moved a.w.now (λ i. omega (arith, c.before.before.before.before.before.before.shared_slice_known-1.given i)) a.out.now _ a.at 2 _ c.before.before.before.before.get2.ensures.0 c.before.before.before.before.before.before.before.requires.0 c.before.before.put2.ensures))
