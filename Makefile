@@ -3,8 +3,8 @@
 # What proves runs several checks at a time, in one folder.
 .NOTPARALLEL:
 
-# The folders too, so that a file that is gone counts as a change.
-sources := crates.txt kit.txt $(shell find crates -type d -o -name '*.rt' -o -name '*.antt')
+# The folders too, so that a file that is gone counts as a change; but not a crate's own, where rt works.
+sources := crates.txt kit.txt $(shell find crates/*/src crates/*/specs crates/*/proofs -type d -o -name '*.rt' -o -name '*.antt')
 
 # The generated files, the gate (every proof and every must-fail edit), the host's tests and the comparison. The last line is the verdict.
 test:
@@ -53,5 +53,6 @@ compare: lib
 bench: lib
 	bench/run.sh
 
+# With what rt keeps of its checks.
 clean:
-	rm -rf target target-log
+	rm -rf target crates/*/out

@@ -83,13 +83,9 @@ def tables():
 SPEC = '''-- The words that count a scale in a compound, as the reader knows them: their first bytes lead to a byte that tells words apart which begin alike.
 -- What it makes of these is held against the ordinal's own words afterwards, so nothing here has to be believed. Made by tools/gen_counts.py.
 -- Assumes nothing.
-use Prim.Native.Nat.{ℕ, _+_, _/_, _%%_}
-use mathlib.Core.Bool.{cond, _||_}
-use mathlib.Core.List.{List, [], _∷_}
-use lib.Dec.{ltb}
-use lib.ListN.{length, take, getD}
-use Rattle·base.specs.Bytes.{num}
-use Rattle·meanings.specs.Lookup.{Entries, lookup}
+use Rattle.std.specs.Prelude.{ℕ, ◌+◌, ◌/◌, ◌%%◌, cond, ◌||◌, List, [], ◌∷◌, ltb, length, take, get_or}
+use Rattle.base.specs.Bytes.{num}
+use Rattle.meanings.specs.Lookup.{Entries, lookup}
 
 -- by the first bytes of a word, %(places)d times by how much the byte that tells is moved, and where it stands
 unfoldable pub leads : Entries
@@ -102,30 +98,29 @@ counts =
 %(counts)s
 
 -- what the first bytes of s lead to
-unfoldable pub leadOf : List ℕ → ℕ
-leadOf s = lookup (num (take %(lead)d s) %% %(divisor)d %% %(nleads)d) leads
+unfoldable pub lead_of : List ℕ → ℕ
+lead_of s = lookup (num (take %(lead)d s) %% %(divisor)d %% %(nleads)d) leads
 
 -- the entry of the count word at the front of s
-unfoldable pub entryOf : List ℕ → ℕ
-entryOf s = lookup ((leadOf s / %(places)d + getD s (leadOf s %% %(places)d) 0) %% %(ncounts)d) counts
+unfoldable pub entry_of : List ℕ → ℕ
+entry_of s = lookup ((lead_of s / %(places)d + get_or s (lead_of s %% %(places)d) 0) %% %(ncounts)d) counts
 
 -- the same, or 0 where s is too short for one: behind a count stand at least six letters
-unfoldable pub countOf : List ℕ → ℕ
-countOf s = cond (ltb (length s) %(places)d || ltb (length s) (entryOf s %% %(sizes)d)) 0 (entryOf s)
+unfoldable pub count_of : List ℕ → ℕ
+count_of s = cond (ltb (length s) %(places)d || ltb (length s) (entry_of s %% %(sizes)d)) 0 (entry_of s)
 '''
 
-SOURCE = '''// The words that count a scale in a compound: which of them stands at the front of some bytes. Made by tools/gen_counts.py.
+SOURCE = '''#![tactic(auto)]
+// The words that count a scale in a compound: which of them stands at the front of some bytes. Made by tools/gen_counts.py.
 mod counts;
 mod leads;
 
-use base::loads::get2;
-use base::loads::get4;
+ghost use Rattle.std.specs.Prelude.{◌≡◌, ◌%%◌, ◌≤◌, ◌<◌, length, take};
+ghost use Rattle.base.specs.Bytes.{num};
+ghost use Rattle.uk_counts.specs.Counts.{count_of};
+
+use base::loads::{get2, get4};
 use base::wide;
-ghost use mathlib.Core.Path.{_≡_};
-ghost use Prim.Native.Nat.{_%%_, _≤_, _<_};
-ghost use lib.ListN.{length, take};
-ghost use Rattle·base.specs.Bytes.{num};
-ghost use Rattle·uk_counts·specs.specs.Counts.{countOf};
 
 // The byte that tells stands before this.
 const PLACES: usize = %(places)d;
@@ -142,15 +137,15 @@ pub const SIZES: u32 = %(sizes)d;
 
 // The first seven bytes as one number.
 fn seven(s: &[u8]) -> u64
-    requires { ⌜ 7 ≤ length (now s) ⌝ }
-    ensures { λ r. ⌜ r ≡ num (take 7 (now (s .entry))) ⌝ }
+    requires { 7 ≤ length s.now }
+    ensures { result ≡ num (take 7 s.now) }
 {
     get4(s, 0) + get2(s, 4) * 4294967296 + wide(s[6]) * 281474976710656
 }
 
 // The count word at the front of s: how many it counts and its length, as one number; 0 where there is none.
 pub fn count(s: &[u8]) -> u32
-    ensures { λ r. ⌜ (r ≡ countOf (now (s .entry))) × (r %% 64 ≤ length (now (s .entry))) × (r < 65536) ⌝ }
+    ensures { (result ≡ count_of s.now) × (result %% 64 ≤ length s.now) × (result < 65536) }
 {
     if s.len() < PLACES {
         return 0;
@@ -178,13 +173,13 @@ def files():
         'specs/Counts.antt': SPEC % said,
         'src/lib.rt': SOURCE % said,
     }
-    for module, head, comment, entries in (
-        ('leads', 'lead_at(place: u32) -> u32', 'What the first bytes of a word lead to. Of each match here the compiler makes a load.', ['%d => %d, // %s' % entry for entry in leads]),
-        ('counts', 'count_at(place: u32) -> u32', 'How many a word counts, and its length.', ['%d => %d, // %d' % entry for entry in counts]),
+    for module, head, comment, table, entries in (
+        ('leads', 'lead_at(place: u32) -> u32', 'What the first bytes of a word lead to. Of each match here the compiler makes a load.', leads, ['%d => %d, // %s' % entry for entry in leads]),
+        ('counts', 'count_at(place: u32) -> u32', 'How many a word counts, and its length.', counts, ['%d => %d, // %d' % entry for entry in counts]),
     ):
         made['src/%s.rt' % module] = arms.source(NAME, module, 'Counts', module, comment, head, entries)
         path = '%s/%s' % (module, head.split('(')[0])
-        made['proofs/%s/Proof.antt' % path] = arms.proof(NAME, path, 'Counts', module, len(entries))
+        made['proofs/%s/Proof.antt' % path] = arms.proof(NAME, path, 'Counts', module, [entry[0] for entry in table])
     return {'crates/%s/%s' % (NAME, path): text for path, text in made.items()}
 
 

@@ -80,17 +80,16 @@ class Crate:
 -- %s, 0 nothing.
 -- What a reader makes of these is held against the grammar's own words afterwards, so nothing here has to be believed.
 -- Assumes nothing.
-use Prim.Native.Nat.{ℕ, _+_, _/_, _%%_}
-use mathlib.Core.List.{[], _∷_}
-use Rattle·meanings.specs.Lookup.{Entries, lookup, meaningAt}
+use Rattle.std.specs.Prelude.{ℕ, ◌+◌, ◌/◌, ◌%%◌, [], ◌∷◌}
+use Rattle.meanings.specs.Lookup.{Entries, lookup, meaning_at}
 
 %s-- a key's place
-abbrev pub placeOf : ℕ → ℕ
-placeOf key = (key %% %d + lookup (key / %d %% %d) shifts) %% %d
+abbrev pub place_of : ℕ → ℕ
+place_of key = (key %% %d + lookup (key / %d %% %d) shifts) %% %d
 
 -- the meaning of the word with this key
-unfoldable pub meaningOf : ℕ → ℕ
-meaningOf key = meaningAt key (lookup (placeOf key) table)
+unfoldable pub meaning_of : ℕ → ℕ
+meaning_of key = meaning_at key (lookup (place_of key) table)
 ''' % (*self.said, lists, self.slots, self.slots, PARTS, self.slots))
 
     # a match with an arm for each entry of a list
@@ -103,12 +102,13 @@ meaningOf key = meaningAt key (lookup (placeOf key) table)
         comment = 'What stands at a place: %d times what its key means, and the key; or 0.' % UNIT
         entries = ['%d => 0x%04x_%04x, // %s: %d' % (p, (m * UNIT + k) >> 16, (m * UNIT + k) & 65535, w, m) for p, m, w, k in self.table]
         self.match('table', comment, 'entry_at(place: u32) -> u32', entries)
-        self.write('src/lib.rt', '''// What the %s mean, by their keys.
+        self.write('src/lib.rt', '''#![tactic(auto)]
+// What the %s mean, by their keys.
 mod shifts;
 mod table;
 
-ghost use mathlib.Core.Path.{_≡_};
-ghost use Rattle·%s·specs.specs.Meanings.{meaningOf};
+ghost use Rattle.std.specs.Prelude.{◌≡◌};
+ghost use Rattle.%s.specs.Meanings.{meaning_of};
 
 // How many places the table has, into how many parts the keys fall, and what is above every key.
 const SLOTS: u32 = %d;
@@ -119,7 +119,7 @@ const UNIT: u32 = %d;
 
 // The meaning of the word with this key.
 pub fn meaning(key: u32) -> u16
-    ensures { λ r. ⌜ r ≡ meaningOf key ⌝ }
+    ensures { result ≡ meaning_of key }
 {
     let shift = shifts::shift(key / SLOTS %% PARTS) as u32;
     let entry = table::entry_at((key %% SLOTS + shift) %% SLOTS);
@@ -131,36 +131,36 @@ pub fn meaning(key: u32) -> u16
 ''' % (self.said[0], self.name, self.slots, PARTS, UNIT))
 
     # a table's
-    def table_proof(self, path, name, count):
-        self.write('proofs/%s/Proof.antt' % path, arms.proof(self.name, path, 'Meanings', name, count))
+    def table_proof(self, path, name, entries):
+        self.write('proofs/%s/Proof.antt' % path, arms.proof(self.name, path, 'Meanings', name, [entry[0] for entry in entries]))
 
     def proofs(self):
         self.write('proofs/Lib.antt', '')
-        self.table_proof('shifts/shift', 'shifts', len(self.shifts))
-        self.table_proof('table/entry_at', 'table', len(self.table))
-        uses = '''use borrow.Author.Needs.{needs}
-use Prim.Native.Nat.{ℕ, _+_, _%%_}
-use mathlib.Core.Path.{_≡_, ap, _∙_}
-use Rattle·meanings.specs.Lookup.{lookup}
-use Rattle·meanings.proofs.Places.{here, elsewhere}
-use Rattle·%s·specs.specs.Meanings.{table, placeOf, meaningOf}
+        self.table_proof('shifts/shift', 'shifts', self.shifts)
+        self.table_proof('table/entry_at', 'table', self.table)
+        uses = '''use borrow.Author.Rules.{rules}
+use Prim.Native.Nat.{ℕ, ◌+◌, ◌%%◌}
+use mathlib.Core.Path.{◌≡◌, ap, ◌∙◌}
+use Rattle.meanings.specs.Lookup.{lookup}
+use Rattle.meanings.proofs.Places.{here, elsewhere}
+use Rattle.%s.specs.Meanings.{table, place_of, meaning_of}
 ''' % self.name
         laws = '''-- what stands at the key's place
-at : (c : tie.After-entry-at) → c .entry-at .result ≡ lookup (placeOf (c .before .before .args .key)) table
-at c = let k = c .before .before .args .key in c .entry-at .ensures ∙ ap (λ (n : ℕ). lookup ((k %% %d + n) %% %d) table) (c .before .shift .ensures)
+at : (c : tie.After-entry_at-entry) → c.entry_at-entry.result ≡ lookup (place_of c.before.before.args.key) table
+at c = let k = c.before.before.args.key in c.entry_at-entry.ensures ∙ ap (λ (n : ℕ). lookup ((k %% %d + n) %% %d) table) c.before.shift-shift.ensures
 
 ''' % (self.slots, self.slots)
-        body = '''unfolding meaningOf
-meaning-spec =
+        body = '''unfolding meaning_of
+meaning_spec =
     tie.close
     (tie.spec
-    (λ c κs. search needs)
-    (λ c. search needs)
-    (λ c. search needs)
-    (λ c κs. search needs)
-    (λ c. search needs)
-    (λ c. here (at (c .before)) (c .if1 .taken))
-    (λ c. elsewhere (at (c .before)) (c .if1 .left)))
+    (λ c κs. search rules)
+    (λ c. search rules)
+    (λ c. search rules)
+    (λ c κs. search rules)
+    (λ c. search rules)
+    (λ c. here (at c.before) c.if-entry-key.true)
+    (λ c. elsewhere (at c.before) c.if-entry-key.false))
 '''
         self.write('proofs/meaning/Proof.antt', arms.headed(self.name, 'meaning', 'a key is found at its place, or has no meaning', uses, laws, body))
 

@@ -7,6 +7,7 @@ import os
 import re
 import sys
 
+import arms
 import generated
 
 GIVEN = os.environ.get('YOKEPEAR_SOURCES')
@@ -21,11 +22,11 @@ CURRENCY = open(os.path.join(SOURCE, 'currency.rs'), encoding='utf8').read()
 
 # a class, its table in uk.rs and in the specs
 CLASSES = [
-    ('hard2', 'NOUN_2ST_GROUP_HARD_DECLENSIONS', 'noun2stGroupHardDeclensions', 'долар'),
-    ('soft2', 'NOUN_2ST_GROUP_SOFT_DECLENSIONS', 'noun2stGroupSoftDeclensions', 'юань'),
-    ('vowel1', 'NOUN_1ST_GROUP_SOFT_DECLENSIONS_VOWEL', 'noun1stGroupSoftDeclensionsVowel', 'рупія'),
-    ('hard1', 'NOUN_1ST_GROUP_HARD_DECLENSIONS', 'noun1stGroupHardDeclensions', 'єна'),
-    ('adj', None, 'adjectiveHardMasculine', 'злотий'),
+    ('hard2', 'NOUN_2ST_GROUP_HARD_DECLENSIONS', 'noun2st_group_hard_declensions', 'долар'),
+    ('soft2', 'NOUN_2ST_GROUP_SOFT_DECLENSIONS', 'noun2st_group_soft_declensions', 'юань'),
+    ('vowel1', 'NOUN_1ST_GROUP_SOFT_DECLENSIONS_VOWEL', 'noun1st_group_soft_declensions_vowel', 'рупія'),
+    ('hard1', 'NOUN_1ST_GROUP_HARD_DECLENSIONS', 'noun1st_group_hard_declensions', 'єна'),
+    ('adj', None, 'adjective_hard_masculine', 'злотий'),
     ('undeclined', None, None, None),
     ('hryvnia', 'HRYVNIAS', 'hryvnias', None),
     ('kopiyka', 'KOPIYKAS', 'kopiykas', None),
@@ -105,7 +106,7 @@ def tables_spec():
     out = '''-- The endings of the currency nouns (01, "Ukrainian money"), as uk.rs has them: by grammatical number, then case.
 -- Assumes nothing.
 use Prim.Native.String.{String}
-use mathlib.Core.List.{List, [], _∷_}
+use Rattle.std.specs.Prelude.{List, [], ◌∷◌}
 '''
     for cls, table in zip(CLASSES, TABLES):
         if not cls[2]:
@@ -120,8 +121,8 @@ use mathlib.Core.List.{List, [], _∷_}
 
 def name(words, gender):
     if len(words) == 1:
-        return '(%sName "%s" %s)' % ((gender,) + words[0])
-    return '(%sPair %s)' % (gender, ' '.join('"%s" %s' % w for w in words))
+        return '(%s_name "%s" %s)' % ((gender,) + words[0])
+    return '(%s_pair %s)' % (gender, ' '.join('"%s" %s' % w for w in words))
 
 
 def currencies_spec():
@@ -133,8 +134,8 @@ def currencies_spec():
 -- genders those of `currency_properties` and `currency_fraction_properties`.
 -- Assumes nothing.
 use Prim.Native.String.{String}
-use mathlib.Core.List.{List, [], _∷_}
-use Rattle·uk_money·specs.specs.Nouns.{hard2, soft2, vowel1, hard1, adj, undeclined, hryvnia, kopiyka, Name, masculineName, feminineName, masculinePair}
+use Rattle.std.specs.Prelude.{List, [], ◌∷◌}
+use Rattle.uk_money.specs.Nouns.{hard2, soft2, vowel1, hard1, adj, undeclined, hryvnia, kopiyka, Name, masculine_name, feminine_name, masculine_pair}
 
 -- a currency: its code, and the names of its main unit and of its fraction
 pub record Currency : Type 0 where
@@ -161,12 +162,12 @@ def code_key(code):
 
 def codes_source():
     write('src/codes.rt', '''// The currency whose code has this number: its place in from_str's order, or 44 for none.
-ghost use mathlib.Core.Path.{_≡_};
-ghost use Rattle·uk_money·specs.specs.Currencies.{currencies};
-ghost use Rattle·uk_money·specs.specs.Rows.{placeByKey};
+ghost use Rattle.std.specs.Prelude.{◌≡◌};
+ghost use Rattle.uk_money.specs.Currencies.{currencies};
+ghost use Rattle.uk_money.specs.Rows.{place_by_key};
 
 pub fn place(key: u64) -> usize
-    ensures { λ r. ⌜ r ≡ placeByKey currencies key ⌝ }
+    ensures { result ≡ place_by_key currencies key }
 {
     match key {
 %s        _ => 44,
@@ -176,23 +177,23 @@ pub fn place(key: u64) -> usize
 
 
 def codes_proof():
-    arms = ['(λ c. found (c .match .keys%d) refl)' % (i + 1) for i in range(len(CODES))] + ['(λ c. sym (missed _ currencies (c .match .rest)))']
+    answers = ['(λ c. found %s refl)' % arms.arm(code_key(code)) for code in CODES] + ['(λ c. sym (missed _ currencies %s))' % arms.DEFAULT]
     write('proofs/codes/place/Proof.antt', '''-- `uk_money::codes::place` meets its contract: in the arm of a code's number stands its place.
 -- Assumes nothing.
 use mathlib.Core.Path.{refl, sym}
-use Rattle·uk_money·specs.specs.Currencies.{currencies}
-use Rattle·uk_money·specs.specs.Rows.{placeByKey}
-use Rattle·uk_money·proofs.proofs.Keys.{found, missed}
-use Rattle·uk_money·proofs.proofs.codes.place.Statement.{statement}
-use Rattle·uk_money·proofs.proofs.codes.place.Tie as tie
+use Rattle.uk_money.specs.Currencies.{currencies}
+use Rattle.uk_money.specs.Rows.{place_by_key}
+use Rattle.uk_money.proofs.Keys.{found, missed}
+use Rattle.uk_money.proofs.codes.place.Statement.{statement}
+use Rattle.uk_money.proofs.codes.place.Tie as tie
 
-pub place-spec : {M : Type 1} → statement M
-unfolding currencies placeByKey
-place-spec =
+pub place_spec : {M : Type 1} → statement M
+unfolding currencies place_by_key
+place_spec =
     tie.close
     (tie.spec
     %s)
-''' % '\n    '.join(arms))
+''' % '\n    '.join(answers))
 
 
 def main():

@@ -6,6 +6,7 @@ of where it starts, times 40, and its length. A table whose words have an apostr
 said for it. What is written is committed; --check compares instead, and fails where a file differs."""
 import re
 import sys
+import textwrap
 
 import apostrophes
 import arms
@@ -120,29 +121,27 @@ class Pool:
         return self.place(table) if isinstance(table, str) else [self.places(row) for row in table]
 
 
-def code_name(name):
-    """The Rust's name of a table, from that of the specs."""
-    return re.sub(r'(?<=[a-z0-9])(?=[A-Z])', '_', name).upper()
-
-
 def shape(table):
     return 'u16' if isinstance(table, int) else '[%s; %d]' % (shape(table[0]), len(table))
 
 
 def literal(table, indent=''):
-    """A constant's value as the formatter sets it: a list on one line where it fits, else an item a line."""
+    """A constant's value as the formatter sets it: numbers on one line where they fit, else lines of them; of lists an item a line."""
     if isinstance(table, int):
         return str(table)
-    line = '[' + ', '.join(literal(row) for row in table) + ']'
-    if len(line) <= 62 and not isinstance(table[0], list):
-        return line
-    return '[\n' + ''.join('%s    %s,\n' % (indent, literal(row, indent + '    ')) for row in table) + indent + ']'
+    within = indent + '    '
+    if isinstance(table[0], list):
+        return '[\n' + ''.join('%s%s,\n' % (within, literal(row, within)) for row in table) + indent + ']'
+    numbers = ', '.join(map(str, table))
+    if len(numbers) <= 60:
+        return '[%s]' % numbers
+    return '[\n' + textwrap.fill(numbers + ',', 100, initial_indent=within, subsequent_indent=within) + '\n' + indent + ']'
 
 
 def constants(head, tables):
     out = head
     for name, table in tables:
-        out += '\npub const %s: %s = %s;\n' % (code_name(name), shape(table), literal(table))
+        out += '\npub const %s: %s = %s;\n' % (name.upper(), shape(table), literal(table))
     return out
 
 
@@ -159,7 +158,7 @@ def depth(table):
 def lists(head, tables):
     out = head + '''-- Assumes nothing.
 use Prim.Native.Nat.{ℕ}
-use mathlib.Core.List.{List, [], _∷_}
+use mathlib.Core.List.{List, [], ◌∷◌}
 '''
     for name, table in tables:
         out += '\nabbrev pub %s : %s\n%s =\n' % (name, depth(table), name)
@@ -217,11 +216,11 @@ def pool_source(head, pool, measured, fronted):
 def front_spec(pool):
     return '''
 -- how many bytes its front has, and the first place that is not for it
-abbrev pub frontSize : ℕ
-frontSize = %d
+abbrev pub front_size : ℕ
+front_size = %d
 
-abbrev pub frontPlaces : ℕ
-frontPlaces = %d
+abbrev pub front_places : ℕ
+front_places = %d
 ''' % (pool.front + LONGER, pool.front // 2 * LONGER)
 
 
@@ -232,22 +231,21 @@ def pool_spec(head, name, pool, fronted):
     body = body.replace(' ++ (', '\n    ++ (')
     return '''%s
 -- Assumes nothing.
-use Prim.Native.Nat.{ℕ}
-use mathlib.Core.List.{List%s}
-use Rattle·base.specs.Utf8.{utf8}
+use Rattle.std.specs.Prelude.{ℕ, List%s}
+use Rattle.base.specs.Utf8.{utf8}
 
 -- all of them, one over another
 unfoldable pub %s : List ℕ
 %s =
     %s
-%s''' % (head, ', _++_' if len(rows) > 1 else '', name, name, body, front_spec(pool) if fronted else '')
+%s''' % (head, ', ◌++◌' if len(rows) > 1 else '', name, name, body, front_spec(pool) if fronted else '')
 
 
 UK = by_apostrophe(tables('uk/specs/UkTables.antt'))
 # these are looked up for every group, and would be made on the stack each time
 DIGITS = {name: UK[name] for name in ('units', 'tens', 'hundreds')}
 ORDINAL = by_apostrophe(tables('uk_ordinal/specs/OrdinalTables.antt'))
-SHORT = {name: table for name, table in ORDINAL.items() if name.endswith('Short')}
+SHORT = {name: table for name, table in ORDINAL.items() if name.endswith('_short')}
 NOUNS = tables('uk_money/specs/NounTables.antt')
 FR = tables('fr/specs/FrTables.antt')
 CLASSES = re.findall(r'^endings (\w+) = (\S+)$', spec('uk_money/specs/Nouns.antt'), re.M)
@@ -255,8 +253,8 @@ CURRENCIES = re.findall(r'^    currency "\w+" \(([^)]*)\) \(([^)]*)\)', spec('uk
 
 # texts that stand in no table of the specs
 UK_OTHERS = {'minus': 'мінус'}
-ORDINAL_OTHERS = {'adjectiveN': 'н', 'beforeEra': 'до', 'ourEra': 'н.е.'}
-FR_OTHERS = {'zero': 'zéro', 'moins': 'moins', 'une': 'une', 'et': 'et', 'quatreVingt': 'quatre-vingt',
+ORDINAL_OTHERS = {'adjective_n': 'н', 'before_era': 'до', 'our_era': 'н.е.'}
+FR_OTHERS = {'zero': 'zéro', 'moins': 'moins', 'une': 'une', 'et': 'et', 'quatre_vingt': 'quatre-vingt',
              'cent': 'cent', 'premier': 'premier', 'ieme': 'ième'}
 
 
@@ -280,7 +278,7 @@ def name_row(text):
 UK_TEXTS = (flat(list(UK.values())) + flat([table for name, table in ORDINAL.items() if name not in SHORT]) + flat(list(NOUNS.values()))
             + list(UK_OTHERS.values()) + list(ORDINAL_OTHERS.values()) + re.findall(r'"([^"]*)"', ' '.join(map(' '.join, CURRENCIES))))
 # the words of everyday figures come first, since for them the pool's front alone is made: all but scale nouns above 10 ^ 9, and but the other signs
-UK_COMMON = [text for text in UK_TEXTS if text not in UK['megaBases'][3:] and not any(sign in text for sign in apostrophes.SIGNS[1:])]
+UK_COMMON = [text for text in UK_TEXTS if text not in UK['mega_bases'][3:] and not any(sign in text for sign in apostrophes.SIGNS[1:])]
 UK_POOL = Pool(UK_TEXTS, UK_COMMON)
 SHORT_POOL = Pool(flat(list(SHORT.values())), [])
 FR_WORDS = fr_tables()
@@ -308,12 +306,12 @@ def digit_files():
     yield 'specs/Lib.antt', 'pub mod Places\n'
     lists = '''-- The places of the words of digits, by apostrophe, digit and case, in this order: it ties the code to the tables. Made by tools/gen_words.py.
 -- Assumes nothing.
-use mathlib.Core.List.{[], _∷_}
-use Rattle·meanings.specs.Lookup.{Entries}
+use Rattle.std.specs.Prelude.{[], ◌∷◌}
+use Rattle.meanings.specs.Lookup.{Entries}
 '''
     modules = ''
     for name, table in DIGITS.items():
-        entries, places = digit_entries(table), name[:-1] + 'Places'
+        entries, places = digit_entries(table), name[:-1] + '_places'
         what = '%s, %d to 9' % (name, 10 - len(table[0]))
         lists += '\n-- %s\nunfoldable pub %s : Entries\n%s =\n%s\n' % (what, places, places, arms.filled(arms.listing(entries)))
         modules += 'pub mod %s; // %s\n' % (name, what)
@@ -321,9 +319,10 @@ use Rattle·meanings.specs.Lookup.{Entries}
         source = arms.source('uk_digits', name, 'Places', places, comment, 'place(index: usize) -> u16', ['%d => %d,' % entry for entry in entries])
         rows = '\n// How many digits have a word here.\npub const ROWS: usize = %d;\n' % len(table[0])
         yield 'src/%s.rt' % name, source.replace('\npub fn', rows + '\npub fn')
-        yield 'proofs/%s/place/Proof.antt' % name, arms.proof('uk_digits', name + '/place', 'Places', places, len(entries))
+        yield 'proofs/%s/place/Proof.antt' % name, arms.proof('uk_digits', name + '/place', 'Places', places, [index for index, _ in entries])
     yield 'specs/Places.antt', lists
-    yield 'src/lib.rt', '''// The places of the words of digits, by apostrophe, digit and case: of each match the compiler makes a load, where a constant table would be built on
+    yield 'src/lib.rt', '''#![tactic(auto)]
+// The places of the words of digits, by apostrophe, digit and case: of each match the compiler makes a load, where a constant table would be built on
 // the stack for each word. Made by tools/gen_words.py.
 ''' + modules
     yield 'proofs/Lib.antt', ''
@@ -342,9 +341,9 @@ def outputs():
         yield '%s/proofs/Listed.antt' % crate, lists("-- The code's tables of places as lists. Made by tools/gen_words.py.\n", found)
     for path, text in digit_files():
         yield 'uk_digits/' + path, text
-    for crate, name, what, pool, measured in [('uk', 'ukPool', 'The Ukrainian texts', UK_POOL, True),
-                                              ('uk_ordinal', 'shortPool', 'The endings of digit ordinals', SHORT_POOL, False),
-                                              ('fr', 'frPool', 'The French texts', FR_POOL, True)]:
+    for crate, name, what, pool, measured in [('uk', 'uk_pool', 'The Ukrainian texts', UK_POOL, True),
+                                              ('uk_ordinal', 'short_pool', 'The endings of digit ordinals', SHORT_POOL, False),
+                                              ('fr', 'fr_pool', 'The French texts', FR_POOL, True)]:
         yield '%s/src/pool.rt' % crate, pool_source('// %s, those that overlap sharing their bytes; `_` brings the next to an even byte. Made by tools/gen_words.py.' % what, pool, measured, pool is UK_POOL)
         yield '%s/specs/Pool.antt' % crate, pool_spec('-- %s, those that overlap sharing their bytes: it ties the code to the tables. Made by tools/gen_words.py.' % what, name, pool, pool is UK_POOL)
 

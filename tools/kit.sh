@@ -14,7 +14,7 @@ cat >&2 <<TEXT
 yokepear: the toolchain here is not the one that the proofs were made and tested with
   here (rt version): $found
   pinned (kit.txt):  $pinned
-Only what the toolchain here proves is built. It may refuse a proof that the pinned one takes; sizes and times in README are the pinned one's.
+Only what the toolchain here proves is built. It may refuse a proof that the pinned one takes; sizes in README are the pinned one's.
 To pin the one here instead, write its line into kit.txt and run 'make test'.
 TEXT
 exit 1
