@@ -12,8 +12,9 @@ use lib.ListN.{length, get_or, take, drop, drop_of_length-le, length-drop}
 use lib.Seq.{drop-cons, drop-drop, take_all}
 use Rattle.base.specs.Front.{begins}
 use Rattle.base.specs.Same.{same_text}
+use Rattle.base.proofs.Fronts.{and_false}
 use Rattle.phrases_forms.specs.Cuts.{next_word, after_space}
-use Rattle.phrases_forms.specs.Line.{free, run}
+use Rattle.phrases_forms.specs.Line.{free, run, closed, inner}
 
 -- the place r of a line's first space, or its length where it has none: no byte before it is a space, and the byte at it is one
 pub first_at : (s : List ℕ) (r : ℕ) → ((k : ℕ) → k < r → get_or s k 0 ≡ 32 → ⊥) → (r < length s → get_or s r 0 ≡ 32) → take r s ≡ next_word s
@@ -116,6 +117,12 @@ module _ (a b c : Bool) (k p : ℕ) (e : p ≡ cond a 0 (cond b 1 (cond c 2 3)))
       go false false true e = absurd (omega arith)
       go false false false e = omega arith
 
+pub at_most_3 : (a b c : Bool) (p : ℕ) → p ≡ cond a 0 (cond b 1 (cond c 2 3)) → p ≤ 3
+at_most_3 true b c p e = omega arith
+at_most_3 false true c p e = omega arith
+at_most_3 false false true p e = omega arith
+at_most_3 false false false p e = omega arith
+
 -- bytes that are free, place by place
 module _ (s : List ℕ) (i : ℕ) (h : i < length s) (p : free s ≡ free (drop i s)) where
   at : drop i s ≡ get_or s i 0 ∷ drop (suc i) s
@@ -138,3 +145,18 @@ run_none s e = rw e refl
 
 pub run_free : (s : List ℕ) → 0 < length s → run s ≡ free s
 run_free s h = rw (ne_eqb (length s) 0 (λ (e : length s ≡ 0). omega arith)) refl
+
+-- a run and its bracket
+pub closed_none : (s : List ℕ) → length s ≡ 0 → false ≡ closed s
+closed_none [] e = refl
+closed_none (b ∷ s) e = absurd (omega arith)
+
+and_true : (b : Bool) → b ≡ (b && true)
+and_true true = refl
+and_true false = refl
+
+pub closed_on : (s : List ℕ) → get_or s (length s - 1) 0 ≡ 41 → run (inner s) ≡ closed s
+closed_on s e = rw (eq-eqb (get_or s (length s - 1) 0) 41 e) (and_true (run (inner s)))
+
+pub closed_off : (s : List ℕ) → (get_or s (length s - 1) 0 ≡ 41 → ⊥) → false ≡ closed s
+closed_off s e = rw (ne_eqb (get_or s (length s - 1) 0) 41 e) (sym (and_false (run (inner s))))
