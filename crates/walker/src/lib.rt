@@ -1,6 +1,6 @@
 #![tactic(auto)]
 // A phrase walked word by word: a struct that holds the phrase and a place in it, as the source's `split_whitespace().peekable()` does.
-// The functions over the struct are proved by hand, so they are thin: each takes it apart and leaves the work to a function of a plain slice.
+// The functions over the struct are thin: each takes it apart and leaves the work to a function of a plain slice.
 // A walker is a value: moving on gives another one, which stands behind the word.
 ghost use Rattle.std.specs.Prelude.{◌≡◌, ◌+◌, ◌<◌, ◌^◌};
 ghost use Rattle.walker.specs.Walk.{follows, word_at, found};
