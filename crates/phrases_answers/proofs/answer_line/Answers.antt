@@ -1,6 +1,6 @@
 -- `phrases_answers::answer_line` meets its contract.
 -- Assumes nothing.
-use Rattle.std.proofs.Common.{sym, ap, ◌∙◌, arith}
+use Rattle.std.proofs.Common.{ap, ◌∙◌, arith}
 use Rattle.phrases_forms.specs.Line.{kind_of, language_of}
 use Rattle.phrases_answers.proofs.Laws.{plainly, line_is, long_line, tail}
 use Rattle.phrases_answers.proofs.answer_line.Goals as goal

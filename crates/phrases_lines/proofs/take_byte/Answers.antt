@@ -1,12 +1,11 @@
 -- `phrases_lines::take_byte` meets its contract: a line's end, a byte that joins the line, and one of a line that is too long.
 -- Assumes nothing.
-use Rattle.std.proofs.Common.{refl, ◌+◌, ◌≤◌, length, take, arith, ◌≡◌, [], ◌∷◌}
+use Rattle.std.proofs.Common.{refl, ◌+◌, ◌≤◌, length, take, arith}
 use lib.Seq.{length-take-le}
 use Rattle.phrases_answers.specs.Answers.{answer_line}
 use Rattle.phrases_lines.specs.Held.{is_line}
-use Rattle.phrases_lines.specs.Program.{Answered}
 use Rattle.phrases_lines.proofs.Lines.{line_on}
-use Rattle.phrases_lines.proofs.Laws.{kept_before, told_behind, ended, lengthened, too_much, nothing, pushed}
+use Rattle.phrases_lines.proofs.Laws.{told_behind, ended, too_much, nothing, pushed}
 use Rattle.phrases_lines.proofs.take_byte.Goals as goal
 
 pub returns-then-b-eq10-clause-line_after : goal.returns-then-b-eq10-clause-line_after
