@@ -8,7 +8,7 @@ ghost use Rattle.base.specs.Answer.{Spelling};
 
 // A call's answer: 0 and the answer's length, or a refusal's number and 0, or for 7 the length needed.
 #[repr(C)]
-#[derive(Drop)]
+#[derive(Clone, Copy)]
 pub struct Answer {
     pub number: u32,
     pub length: usize,
@@ -44,7 +44,7 @@ pub fn refused(number: u32) -> Answer
 
 // What a measuring call answers: 0 with the phrase's words and its length in bytes, or a refusal's number and no more.
 #[repr(C)]
-#[derive(Drop)]
+#[derive(Clone, Copy)]
 pub struct Measure {
     pub refusal: u32,
     pub words: u32,

@@ -28,7 +28,7 @@ const SCALE: u16 = 1000;
 const HUNDRED: u16 = 100;
 
 // A number below a hundred, the meaning of the word that ends it, and where the next word starts.
-#[derive(Drop)]
+#[derive(Clone, Copy)]
 pub struct Part {
     pub count: u16,
     pub meaning: u16,
@@ -36,7 +36,7 @@ pub struct Part {
 }
 
 // A group's value and order, and where the next group starts.
-#[derive(Drop)]
+#[derive(Clone, Copy)]
 pub struct Group {
     pub value: u16,
     pub order: usize,

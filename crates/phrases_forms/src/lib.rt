@@ -8,7 +8,7 @@ ghost use Rattle.std.specs.Prelude.{◌≡◌, ◌≤◌, length, take, drop};
 ghost use Rattle.phrases_forms.specs.Cuts.{next_word, after_space};
 
 // What is asked of a figure.
-#[derive(Drop)]
+#[derive(Clone, Copy)]
 pub enum Kind {
     Card,
     Ord,
@@ -19,7 +19,7 @@ pub enum Kind {
 }
 
 // The language whose settings follow.
-#[derive(Drop)]
+#[derive(Clone, Copy)]
 pub enum Language {
     Ukrainian,
     French,
@@ -27,7 +27,7 @@ pub enum Language {
 }
 
 // Where a line's first word ends, and where what is behind its space starts.
-#[derive(Drop)]
+#[derive(Clone, Copy)]
 pub struct Bounds {
     pub end: usize,
     pub next: usize,

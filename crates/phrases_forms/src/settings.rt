@@ -6,7 +6,7 @@ ghost use Rattle.phrases_forms.specs.Line.{gender_of, grammatical_number_of, cas
 use super::{cut, names};
 
 // The setting numbers of three words, in their order, and where what is behind them starts.
-#[derive(Drop)]
+#[derive(Clone, Copy)]
 pub struct Three {
     pub a: u32,
     pub b: u32,
@@ -15,7 +15,7 @@ pub struct Three {
 }
 
 // Where three words stand, and where what is behind them starts.
-#[derive(Drop)]
+#[derive(Clone, Copy)]
 struct Spans {
     to1: usize,
     from2: usize,

@@ -13,14 +13,14 @@ pub const HELD: usize = 513;
 const ROOM: usize = 6881;
 
 // How much of a line is held, and how much was written.
-#[derive(Drop)]
+#[derive(Clone, Copy)]
 pub struct Turn {
     pub held: usize,
     pub used: usize,
 }
 
 // How far a block was read, how much of a line is held, and how much was written.
-#[derive(Drop)]
+#[derive(Clone, Copy)]
 pub struct Fed {
     pub at: usize,
     pub held: usize,

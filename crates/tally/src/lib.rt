@@ -25,7 +25,7 @@ pub struct Place {
 }
 
 // A sum of amounts: whether its whole part is within the money limit, and then what it is.
-#[derive(Drop)]
+#[derive(Clone, Copy)]
 pub struct Sum {
     pub within: bool,
     pub whole: u64,

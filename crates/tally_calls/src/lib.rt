@@ -17,7 +17,7 @@ use uk_money::CURRENCIES;
 
 // What a call on a tally answers: 0, the item number given and the phrase's length, or a refusal's number and 0 twice, or for 7 the length needed.
 #[repr(C)]
-#[derive(Drop)]
+#[derive(Clone, Copy)]
 pub struct Tallied {
     pub refusal: u32,
     pub item: u32,

@@ -8,7 +8,7 @@ use base::loads::get8;
 use base::wide;
 
 // The key of a text's first word, and how many bytes the word and the gap behind it have.
-#[derive(Drop)]
+#[derive(Clone, Copy)]
 pub struct Token {
     pub key: u32,
     pub next: usize,

@@ -32,14 +32,14 @@ const LIMIT_LOW: u64 = 709551615;
 const MOST: u32 = 99;
 
 // What bytes are to the reader of money: no sentence, or an amount with these hundredths.
-#[derive(Drop)]
+#[derive(Clone, Copy)]
 pub enum SeenAmount {
     Refused,
     Amount(u32),
 }
 
 // What the reader of money found: what the bytes are, and how many orders the groups have that it stored.
-#[derive(Drop)]
+#[derive(Clone, Copy)]
 pub struct ReadAmount {
     pub seen: SeenAmount,
     pub orders: usize,

@@ -15,14 +15,14 @@ const COUNT_WORDS: usize = 4;
 const HUNDREDS: u32 = 1000;
 
 // What the count words at the front of a stem count, and where they end.
-#[derive(Drop)]
+#[derive(Clone, Copy)]
 struct CountRead {
     value: u16,
     next: usize,
 }
 
 // A last word's order, and its number there.
-#[derive(Drop)]
+#[derive(Clone, Copy)]
 pub struct Meant {
     pub order: usize,
     pub value: u16,

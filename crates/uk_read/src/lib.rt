@@ -24,7 +24,7 @@ const SCALE: u16 = 1000;
 const MINUS: u16 = 2001;
 
 // A group's value and order, and where the next group starts.
-#[derive(Drop)]
+#[derive(Clone, Copy)]
 pub struct Group {
     pub value: u16,
     pub order: usize,
@@ -32,7 +32,7 @@ pub struct Group {
 }
 
 // How many bytes groups have in a text, and how many orders: that of the first group and 1, or 0 for no group.
-#[derive(Drop)]
+#[derive(Clone, Copy)]
 pub struct Span {
     pub bytes: usize,
     pub orders: usize,

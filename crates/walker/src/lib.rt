@@ -15,14 +15,14 @@ pub struct Walker<'a> {
 }
 
 // One step of a walk: the key of the word passed, and the walker behind it.
-#[derive(Drop)]
+#[derive(Clone, Copy)]
 pub struct Step<'a> {
     pub key: u32,
     pub rest: Walker<'a>,
 }
 
 // What a walker finds at its place: whether a word stands there, the word's key, and how many bytes it and the gap behind it have.
-#[derive(Drop)]
+#[derive(Clone, Copy)]
 pub struct Found {
     pub more: bool,
     pub key: u32,

@@ -8,7 +8,7 @@ ghost use Rattle.words.specs.Extents.{Countable, SpacesCounted, Extends};
 use crate::LONGER;
 
 // The spaces and the bytes of a text.
-#[derive(Drop)]
+#[derive(Clone, Copy)]
 pub struct Extent {
     pub spaces: u32,
     pub length: usize,
