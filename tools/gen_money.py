@@ -1,13 +1,12 @@
 #!/usr/bin/env python3
 # gen_money.py [--check]: writes what crates/uk_money has of the currencies from the published Rust's lang/uk.rs and currency.rs, in the
-# layout of `rt fmt`: the tables of its specs, and the code and the proof of the codes. With --check it writes nothing and fails at a difference.
+# layout of `rt fmt`: the tables of its specs, and the code of the codes. With --check it writes nothing and fails at a difference.
 # The Rust is in YOKEPEAR_SOURCES, or in ../shared/docs beside the checkout. Run by hand after a change of these files; what it writes is committed.
 import argparse
 import os
 import re
 import sys
 
-import arms
 import generated
 
 GIVEN = os.environ.get('YOKEPEAR_SOURCES')
@@ -166,6 +165,7 @@ ghost use Rattle.std.specs.Prelude.{◌≡◌};
 ghost use Rattle.uk_money.specs.Currencies.{currencies};
 ghost use Rattle.uk_money.specs.Rows.{place_by_key};
 
+#[tactic(auto, unfolding(crate::specs::Currencies::currencies, crate::specs::Rows::place_by_key))]
 pub fn place(key: u64) -> usize
     ensures { result ≡ place_by_key currencies key }
 {
@@ -176,26 +176,6 @@ pub fn place(key: u64) -> usize
 ''' % ''.join('        %d => %d, // %s\n' % (code_key(c), i, c) for i, c in enumerate(CODES)))
 
 
-def codes_proof():
-    answers = ['(λ c. found %s refl)' % arms.arm(code_key(code)) for code in CODES] + ['(λ c. sym (missed _ currencies %s))' % arms.DEFAULT]
-    write('proofs/codes/place/Proof.antt', '''-- `uk_money::codes::place` meets its contract: in the arm of a code's number stands its place.
--- Assumes nothing.
-use mathlib.Core.Path.{refl, sym}
-use Rattle.uk_money.specs.Currencies.{currencies}
-use Rattle.uk_money.specs.Rows.{place_by_key}
-use Rattle.uk_money.proofs.Keys.{found, missed}
-use Rattle.uk_money.proofs.codes.place.Statement.{statement}
-use Rattle.uk_money.proofs.codes.place.Tie as tie
-
-pub place_spec : {M : Type 1} → statement M
-unfolding currencies place_by_key
-place_spec =
-    tie.close
-    (tie.spec
-    %s)
-''' % '\n    '.join(answers))
-
-
 def main():
     parser = argparse.ArgumentParser()
     parser.add_argument('--check', action='store_true')
@@ -203,7 +183,6 @@ def main():
     tables_spec()
     currencies_spec()
     codes_source()
-    codes_proof()
     generated.put(FILES, check=given.check)
 
 

@@ -1,13 +1,14 @@
 -- Laws of a word at the front of a text, place by place and as a whole.
 -- Assumes nothing.
-use Prim.Native.Nat.{ℕ, suc, ◌<◌}
-use mathlib.Core.Path.{◌≡◌, refl, sym, ◌∙◌}
+use Prim.Native.Nat.{ℕ, ◌<◌}
+use mathlib.Core.Path.{◌≡◌, refl}
 use mathlib.Core.Bool.{Bool, true, false, ◌&&◌}
 use mathlib.Core.List.{List, [], ◌∷◌, ◌++◌}
 use native.Mathlib.Omega.{arith}
 use borrow.Author.Tests.{eq-eqb, eqb-true}
 use lib.Dec.{eqb}
 use lib.ListN.{length, drop}
+use Rattle.std.specs.Prelude.{Some, None}
 use Rattle.tables.proofs.Tests.{clash_of, both_hold}
 use Rattle.base.specs.Front.{begins, passed}
 
@@ -32,17 +33,10 @@ pub begins_own : (w t : List ℕ) → begins w (w ++ t) ≡ true
 begins_own [] t = refl
 begins_own (b ∷ w) t = rw (eq-eqb b b refl) (begins_own w t)
 
-pub passed_true : (w s : List ℕ) → begins w s ≡ true → passed w s ≡ suc (length w)
+pub passed_true : (w s : List ℕ) → begins w s ≡ true → passed w s ≡ Some (length w)
 unfolding passed
 passed_true w s e = rw e refl
 
-pub passed_false : (w s : List ℕ) → begins w s ≡ false → passed w s ≡ 0
+pub passed_false : (w s : List ℕ) → begins w s ≡ false → passed w s ≡ None
 unfolding passed
 passed_false w s e = rw e refl
-
--- what a comparison with w reports
-pub front_yes : (w s : List ℕ) (n : ℕ) → n ≡ suc (length w) → true ≡ begins w s → n ≡ passed w s
-front_yes w s n e b = e ∙ sym (passed_true w s (sym b))
-
-pub front_no : (w s : List ℕ) → false ≡ begins w s → 0 ≡ passed w s
-front_no w s b = sym (passed_false w s (sym b))

@@ -2,6 +2,7 @@ pub mod Fronts
 pub mod Measures
 pub mod Unspaced
 pub mod Replies
+pub mod Refusals
 pub mod Foretold
 pub mod Closing
 pub mod Same

@@ -9,6 +9,7 @@ pub mod Divide
 pub mod Decides
 pub mod Answer
 pub mod Measure
+pub mod Refused
 pub mod Reading
 pub mod Room
 pub mod Replaced

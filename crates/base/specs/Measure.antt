@@ -5,11 +5,16 @@ use Rattle.base.specs.Signs.{space}
 use Rattle.base.specs.Answer.{no_room, Spelling}
 use Rattle.base.specs.declared.Answer.{Answer}
 use Rattle.base.specs.declared.Measure.{Measure}
+use Rattle.base.specs.declared.Size.{Size}
 
 -- how many of some bytes are spaces
 unfoldable pub spaces : List ℕ → ℕ
 spaces [] = 0
 spaces (b ∷ s) = cond (eqb b space) (suc (spaces s)) (spaces s)
+
+-- a phrase's words and bytes
+abbrev pub size_of : List ℕ → Size
+size_of phrase = record { words = suc (spaces phrase); length = length phrase }
 
 -- the measure of a phrase: "its count of space-separated words", which is one more than its spaces, and "the phrase's length in bytes"
 abbrev pub measure_of : List ℕ → Measure

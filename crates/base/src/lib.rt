@@ -1,12 +1,58 @@
 #![tactic(auto)]
-// What every crate shares: a call's answer, a measure, casts, and loads of several bytes.
-pub mod loads; // loads.rt: two, four and eight bytes at a time
+// What every crate shares: a call's answer, a measure, and loads of several bytes.
+pub mod loads; // loads.rt: several bytes at a time
 
 ghost use Rattle.std.specs.Prelude.{◌≡◌, List, ℕ, ◌<◌, length as length_of};
-ghost use Rattle.base.specs.Measure.{spaces as spaces_in, measure_of, measured};
-ghost use Rattle.base.specs.Answer.{Spelling};
+ghost use Rattle.base.specs.Measure.{spaces as spaces_in, size_of};
+ghost use Rattle.base.specs.Refused.{refusal_number, refusal_length, answer_of, measure_in};
 
-// A call's answer: 0 and the answer's length, or a refusal's number and 0, or for 7 the length needed.
+// Why a call is refused.
+#[derive(Clone, Copy, PartialEq, Eq)]
+pub enum Refusal {
+    WrongSetting,
+    WrongCode,
+    Malformed,
+    WrongSign,
+    TooLarge,
+    NoSentence,
+    /// With the length needed.
+    NoRoom(usize),
+    TallyFull,
+    SumTooLarge,
+    NotHeld,
+}
+
+impl Refusal {
+    /// The number by which a host knows it.
+    pub fn number(self) -> u32
+        ensures { result ≡ refusal_number self }
+    {
+        match self {
+            Refusal::WrongSetting => 1,
+            Refusal::WrongCode => 2,
+            Refusal::Malformed => 3,
+            Refusal::WrongSign => 4,
+            Refusal::TooLarge => 5,
+            Refusal::NoSentence => 6,
+            Refusal::NoRoom(_) => 7,
+            Refusal::TallyFull => 8,
+            Refusal::SumTooLarge => 9,
+            Refusal::NotHeld => 10,
+        }
+    }
+
+    /// The length that it reports.
+    pub fn length(self) -> usize
+        ensures { result ≡ refusal_length self }
+    {
+        match self {
+            Refusal::NoRoom(needed) => needed,
+            _ => 0,
+        }
+    }
+}
+
+// A call's answer as a host gets it: 0 and the answer's length, or a refusal's number and 0, or for 7 the length needed.
 #[repr(C)]
 #[derive(Clone, Copy)]
 pub struct Answer {
@@ -14,32 +60,36 @@ pub struct Answer {
     pub length: usize,
 }
 
-// The numbers of 01's table, and those that 02 adds.
-pub const WRONG_SETTING: u32 = 1;
+impl From<Result<usize, Refusal>> for Answer {
+    ghost from_gives = { λ told answer. answer ≡ answer_of told };
 
-pub const WRONG_CODE: u32 = 2;
+    fn from(told: Result<usize, Refusal>) -> Answer {
+        match told {
+            Ok(length) => Answer { number: 0, length },
+            Err(refusal) => Answer {
+                number: refusal.number(),
+                length: refusal.length(),
+            },
+        }
+    }
+}
 
-pub const MALFORMED: u32 = 3;
+// What a phrase measures.
+#[derive(Clone, Copy)]
+pub struct Size {
+    pub words: u32,
+    pub length: usize,
+}
 
-pub const WRONG_SIGN: u32 = 4;
-
-pub const TOO_LARGE: u32 = 5;
-
-pub const NO_SENTENCE: u32 = 6;
-
-pub const NO_ROOM: u32 = 7;
-
-pub const TALLY_FULL: u32 = 8;
-
-pub const SUM_TOO_LARGE: u32 = 9;
-
-pub const NOT_HELD: u32 = 10;
-
-// The answer of a refusal that reports no length.
-pub fn refused(number: u32) -> Answer
-    ensures { (result.number ≡ number) × (result.length ≡ 0) }
+// The size of a phrase of so many spaces, of which there may be one more, and this length.
+pub fn size_of(spaces: u32, length: usize) -> Size
+    requires { spaces < 4294967295 }
+    ensures { (phrase : List ℕ) → spaces ≡ spaces_in phrase → length ≡ length_of phrase → result ≡ size_of phrase }
 {
-    Answer { number, length: 0 }
+    Size {
+        words: spaces + 1,
+        length,
+    }
 }
 
 // What a measuring call answers: 0 with the phrase's words and its length in bytes, or a refusal's number and no more.
@@ -51,40 +101,21 @@ pub struct Measure {
     pub length: usize,
 }
 
-// The measure of a phrase of so many spaces, of which there may be one more, and this length.
-pub fn measure_of(spaces: u32, length: usize) -> Measure
-    requires { spaces < 4294967295 }
-    ensures { (phrase : List ℕ) → spaces ≡ spaces_in phrase → length ≡ length_of phrase → result ≡ measure_of phrase }
-{
-    Measure {
-        refusal: 0,
-        words: spaces + 1,
-        length,
+impl From<Result<Size, Refusal>> for Measure {
+    ghost from_gives = { λ told measure. measure ≡ measure_in told };
+
+    fn from(told: Result<Size, Refusal>) -> Measure {
+        match told {
+            Ok(size) => Measure {
+                refusal: 0,
+                words: size.words,
+                length: size.length,
+            },
+            Err(refusal) => Measure {
+                refusal: refusal.number(),
+                words: 0,
+                length: 0,
+            },
+        }
     }
-}
-
-// The measure of a call that is refused.
-pub fn unmeasured(refusal: u32) -> Measure
-    requires { 0 < refusal }
-    ensures { (call : Spelling) → call.refusal ≡ refusal → result ≡ measured call }
-{
-    Measure {
-        refusal,
-        words: 0,
-        length: 0,
-    }
-}
-
-// A byte as a number: a cast of its own, so that no caller has to show that it fits.
-pub fn wide(b: u8) -> u64
-    ensures { (result ≡ b) × (result < 256) }
-{
-    b as u64
-}
-
-// A group as a number, likewise.
-pub fn wide_group(g: u16) -> usize
-    ensures { result ≡ g }
-{
-    g as usize
 }

@@ -10,6 +10,7 @@ use lib.ListN.{length, get_or}
 use Rattle.base.specs.Join.{Word}
 use Rattle.figures.specs.Groups.{total, Groups}
 use Rattle.figures.proofs.Laws.Groups.{group_of_lem}
+use Rattle.groups.specs.declared.number.Number.{Number}
 use Rattle.cardinals.specs.Lexicon.{Lexicon}
 use Rattle.cardinals.specs.Cardinal.{group_of, groups_below, sign_words, cardinal_words}
 use Rattle.cardinals.specs.Listed.{listed}
@@ -37,8 +38,10 @@ module _ (L : Lexicon) (gs : List ℕ) where
       go (no g) f = let e : n ≡ suc m = omega arith in rw e refl
       go (yes g) f = f (omega arith) ∙ sym (ap (λ (x : ℕ). group_of L m x ++ listed L m gs) (z m (omega arith)))
 
-  -- the words of a number that is not 0, from its groups, of which those from n on are 0
-  pub cardinal_listed : (minus : Bool) (n : ℕ) → Groups gs → length gs ≡ L.orders → ((i : ℕ) → n ≤ i → get_or gs i 0 ≡ 0) → n ≤ L.orders → (total gs ≡ 0 → ⊥)
-      → sign_words L minus ++ listed L n gs ≡ cardinal_words L minus (total gs)
-  cardinal_listed minus n g l z h s =
-      ap (λ (ws : List Word). sign_words L minus ++ ws) (listed_high n L.orders z h ∙ listed_is L.orders g (omega arith)) ∙ sym (cardinal_some L minus (total gs) s)
+-- the words of a number that is not 0, from its groups
+pub cardinal_listed : (L : Lexicon) {N : ℕ} (x : Number N) (minus : Bool) → N ≡ L.orders → (total x.groups ≡ 0 → ⊥)
+    → sign_words L minus ++ listed L x.orders x.groups ≡ cardinal_words L minus (total x.groups)
+cardinal_listed L x minus e s =
+    let l : length x.groups ≡ L.orders = x.size ∙ e in
+    let h : listed L x.orders x.groups ≡ listed L L.orders x.groups = listed_high L x.groups x.orders L.orders x.highest.zeros (omega (arith, x.highest.fits)) in
+    ap (λ (ws : List Word). sign_words L minus ++ ws) (h ∙ listed_is L x.groups L.orders x.small (omega arith)) ∙ sym (cardinal_some L minus (total x.groups) s)

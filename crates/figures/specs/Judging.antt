@@ -2,15 +2,6 @@
 -- Assumes nothing.
 use Rattle.std.specs.Prelude.{ℕ, Bool, [], ◌∷◌}
 use Rattle.base.specs.Answer.{malformed, wrong_sign, too_large, first_of}
-use Rattle.figures.specs.declared.Judged.{Judged}
-use Rattle.figures.specs.declared.Judged.TheVariants.{Fine, Malformed, Negative, Large}
-
--- 01's number of each of the code's answers, 0 for none
-abbrev pub refusal_of : Judged → ℕ
-refusal_of Fine = 0
-refusal_of Malformed = malformed
-refusal_of Negative = wrong_sign
-refusal_of Large = too_large
 
 -- the first that applies of the three: malformed, a sign that is refused, above the limit
 abbrev pub judged : Bool → Bool → Bool → ℕ

@@ -8,36 +8,24 @@ use super::{after_sign, all_digits, is_plain, is_well_formed};
 fn is_pointed(s: &[u8]) -> bool
     ensures { result ≡ pointed s.now }
 {
-    if 3 <= s.len() {
-        let i = s.len() - 3;
-        s[i] == b'.'
-    } else {
-        false
-    }
+    matches!(s, [.., b'.', _, _])
 }
 
 // What stands before the '.', with the sign.
 pub fn whole_part(s: &[u8]) -> &[u8]
     ensures { result.now ≡ whole_text s.now }
 {
-    if is_pointed(s) {
-        let e = s.len() - 3;
-        &s[..e]
-    } else {
-        s
-    }
+    if is_pointed(s) { &s[..s.len() - 3] } else { s }
 }
 
 // What stands after the '.'.
 pub fn hundredths_part(s: &[u8]) -> &[u8]
     ensures { result.now ≡ hundredths_text s.now }
 {
-    let n = s.len();
     if is_pointed(s) {
-        let a = n - 2;
-        &s[a..]
+        &s[s.len() - 2..]
     } else {
-        &s[n..]
+        &[]
     }
 }
 
@@ -46,11 +34,7 @@ fn is_hundredths(s: &[u8]) -> bool
     requires { length s.now ≡ 2 }
     ensures { result ≡ are_hundredths s.now }
 {
-    if all_digits(s) {
-        if s[0] == b'0' { s[1] != b'0' } else { true }
-    } else {
-        false
-    }
+    all_digits(s) && (s[0] != b'0' || s[1] != b'0')
 }
 
 // Whether s is a money text.
@@ -58,11 +42,7 @@ pub fn is_money_formed(s: &[u8]) -> bool
     ensures { result ≡ money_formed s.now }
 {
     if is_pointed(s) {
-        if is_plain(after_sign(whole_part(s))) {
-            is_hundredths(hundredths_part(s))
-        } else {
-            false
-        }
+        is_plain(after_sign(whole_part(s))) && is_hundredths(hundredths_part(s))
     } else {
         is_well_formed(s)
     }

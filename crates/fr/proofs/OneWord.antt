@@ -12,7 +12,7 @@ use Rattle.base.specs.Utf8.{utf8, form1}
 use Rattle.base.specs.Measure.{spaces}
 use Rattle.base.proofs.Unspaced.{Unspaced, AllUnspaced, unspaced_append, all_append, unspaced_at1}
 use Rattle.base.proofs.Words.{either}
-use Rattle.settings.specs.declared.Settings.{Settings}
+use Rattle.settings.specs.Settings.{Settings}
 use Rattle.cardinals.specs.Cardinal.{cardinal_phrase}
 use Rattle.cardinals.proofs.Unspaced.{UnspacedWords, cardinal_unspaced}
 use Rattle.fr.specs.FrTables.{units, tens, teens, megas}

@@ -11,7 +11,7 @@ use lib.ListN.{length, length-append}
 use Rattle.base.specs.Utf8.{utf8}
 use Rattle.base.specs.Join.{Word, spaced_by, joined_by}
 use Rattle.base.specs.Signs.{space, hyphen}
-use Rattle.settings.specs.declared.Settings.{Settings}
+use Rattle.settings.specs.Settings.{Settings}
 use Rattle.cardinals.specs.Cardinal.{cardinal_words, cardinal_phrase}
 use Rattle.cardinals.proofs.Numbers.{sentence, spelled}
 use Rattle.cardinals.proofs.Words.{GroupsSome, words_some}

@@ -11,14 +11,17 @@ use lib.ListN.{length, get_or, length-take, length-drop}
 use Rattle.base.specs.Utf8.{utf8, form1}
 use Rattle.base.specs.Join.{Word}
 use Rattle.base.specs.Signs.{space, hyphen}
-use Rattle.settings.specs.declared.Settings.{Settings}
+use Rattle.settings.specs.Settings.{Settings}
+use Rattle.settings.specs.Chosen.{spelling_number, french_numbers_of}
+use Rattle.settings.specs.declared.french.French.{French}
+use Rattle.settings.proofs.Chosen.{spelling_bound, region_bound, spelling_index, spelling_index_lem}
 use Rattle.words.specs.Part.{part}
 use Rattle.fr.specs.Pool.{fr_pool}
 use Rattle.fr.specs.FrTables.{units, tens, teens, megas}
-use Rattle.fr.specs.Rules.{is_reformed, in_ch, is_mille, french_joiner, cent_word, counts_on, four_twenties, is_une, unit_word, ten_word, round_word, mega_name, scale_word}
+use Rattle.fr.specs.Rules.{in_ch, is_mille, french_joiner, cent_word, counts_on, four_twenties, is_une, unit_word, ten_word, round_word, mega_name, scale_word}
 use Rattle.fr.specs.Placed.{Known, Placed, Plural}
 use Rattle.tables.proofs.Tests.{both_hold, all}
-use Rattle.fr.proofs.Tests.{all_at, both, both_at, placed?, placed, plural?, plural}
+use Rattle.fr.proofs.Tests.{all_at, placed?, placed, plural?, plural}
 use Rattle.fr.proofs.Deciders.{mille_not}
 use Rattle.fr.proofs.Listed as places
 
@@ -72,13 +75,15 @@ tens_right : T (all 0 3 (λ g. all 2 8 (ten? g)))
 unfolding ten? part fr_pool ten_word form1 tens
 tens_right = tt
 
-module _ (S : Settings) (t : ℕ) where
-  pub ten_word_lem : S.region < 3 → 1 < t → t < 10 → counts_on S t ≡ false → four_twenties S t ≡ false → Placed (get_or places.tens t 0) (ten_word S t)
-  unfolding ten? ten_word
-  ten_word_lem g a b c d =
-      let r = all_at 2 8 (ten? S.region) (all_at 0 3 (λ g. all 2 8 (ten? g)) tens_right S.region (omega arith) g) t a (omega arith) in
-      placed (get_or places.tens t 0) (ten_word S t) (rw (c, d) at r)
+pub ten_word_lem : (s : French) (t : ℕ) → 1 < t → t < 10 → counts_on (french_numbers_of s) t ≡ false → four_twenties (french_numbers_of s) t ≡ false
+    → Placed (get_or places.tens t 0) (ten_word (french_numbers_of s) t)
+unfolding ten? ten_word
+ten_word_lem s t a b c d =
+    let S = french_numbers_of s in
+    let r = all_at 2 8 (ten? S.region) (all_at 0 3 (λ g. all 2 8 (ten? g)) tens_right S.region (omega arith) (region_bound s.region)) t a (omega arith) in
+    placed (get_or places.tens t 0) (ten_word S t) (rw (c, d) at r)
 
+module _ (S : Settings) (t : ℕ) where
   -- `quatre-vingt`, and `quatre-vingts`
   pub twenties_word : four_twenties S t ≡ true → Placed places.quatre_vingt (ten_word S t)
   unfolding ten_word form1 tens part fr_pool
@@ -104,17 +109,19 @@ module _ (S : Settings) (t : ℕ) where
     round_other e = rw e refl
 
 -- hundreds above 1, by the joiner
-hundred? : Bool → ℕ → Bool
-hundred? b h = plural? (get_or (get_or places.hundreds (cond b 1 0) []) h 0) (form1 units (h - 1) ++ (cond b hyphen space ∷ utf8 "cent"))
+hundred? : ℕ → ℕ → Bool
+hundred? r h = plural? (get_or (get_or places.hundreds r []) h 0) (form1 units (h - 1) ++ (cond (eqb r 1) hyphen space ∷ utf8 "cent"))
 
-hundreds_right : T (both (λ b. all 2 8 (hundred? b)))
+hundreds_right : T (all 0 2 (λ r. all 2 8 (hundred? r)))
 unfolding hundred? part fr_pool form1 units
 hundreds_right = tt
 
-pub hundred_word : (S : Settings) (h : ℕ) (b : Bool) → 1 < h → h < 10 → is_reformed S ≡ b
-    → Plural (get_or (get_or places.hundreds (cond b 1 0) []) h 0) (form1 units (h - 1) ++ (french_joiner S ∷ utf8 "cent"))
+pub hundred_word : (s : French) (h : ℕ) → 1 < h → h < 10
+    → Plural (get_or (get_or places.hundreds (spelling_index s.spelling) []) h 0) (form1 units (h - 1) ++ (french_joiner (french_numbers_of s) ∷ utf8 "cent"))
 unfolding hundred?
-hundred_word S h b x y e = rw e (plural _ _ (all_at 2 8 (hundred? b) (both_at (λ b. all 2 8 (hundred? b)) hundreds_right b) h x (omega arith)))
+hundred_word s h a b =
+    let r = spelling_number s.spelling in
+    rw (spelling_index_lem s.spelling) (plural _ _ (all_at 2 8 (hundred? r) (all_at 0 2 (λ r. all 2 8 (hundred? r)) hundreds_right r (omega arith) (spelling_bound s.spelling)) h a (omega arith)))
 
 -- with `s`, or without it
 module _ (w : Word) (j k b : ℕ) where

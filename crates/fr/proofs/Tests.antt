@@ -36,14 +36,6 @@ and_right false b t = absurd t
 pub all_at : (lo n : ℕ) (f : ℕ → Bool) → T (all lo n f) → (i : ℕ) → lo ≤ i → i < lo + n → T (f i)
 all_at lo n f t i l h = of_yes (f i) (all_true lo n f (yes_of (all lo n f) t) i l h)
 
--- a test of both truth values
-abbrev pub both : (Bool → Bool) → Bool
-both f = f true && f false
-
-pub both_at : (f : Bool → Bool) → T (both f) → (b : Bool) → T (f b)
-both_at f t true = and_left (f true) (f false) t
-both_at f t false = and_right (f true) (f false) t
-
 -- the same text
 pub same_eq : (w s : List ℕ) → T (same_text w s) → w ≡ s
 same_eq w s t = same_is w s (yes_of (same_text w s) t)

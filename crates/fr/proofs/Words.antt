@@ -11,7 +11,7 @@ use Rattle.base.specs.Join.{Word}
 use Rattle.base.specs.Signs.{letter_e, space}
 use Rattle.base.specs.Utf8.{utf8, form1}
 use Rattle.base.proofs.Words.{Runs, tested, Solid, Trails, first_runs, next_runs, ends, followed, either, Solids, solids_append, at1}
-use Rattle.settings.specs.declared.Settings.{Settings}
+use Rattle.settings.specs.Settings.{Settings}
 use Rattle.cardinals.specs.Cardinal.{cardinal_phrase}
 use Rattle.cardinals.proofs.Words.{SolidWords, cardinal_solid}
 use Rattle.fr.specs.FrTables.{units, tens, teens, megas}

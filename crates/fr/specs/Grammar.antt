@@ -4,7 +4,7 @@
 use Rattle.std.specs.Prelude.{ℕ, ◌≡◌, Bool, false, List, [], ◌∷◌}
 use Rattle.base.specs.Utf8.{utf8}
 use Rattle.base.specs.Join.{Word, joined_by}
-use Rattle.settings.specs.declared.Settings.{Settings}
+use Rattle.settings.specs.Settings.{Settings}
 use Rattle.cardinals.specs.Grammar.{Sentence}
 use Rattle.fr.specs.Rules.{french_joiner, nth_words, french}
 

@@ -5,8 +5,7 @@ use Rattle.std.specs.Prelude.{ℕ, zero, suc, ◌-◌, ◌/◌, ◌%◌, Bool, t
 use Rattle.base.specs.Utf8.{utf8, form1}
 use Rattle.base.specs.Join.{Word}
 use Rattle.base.specs.Signs.{space, hyphen, letter_e}
-use Rattle.settings.specs.Settings.{feminine, new_spelling, region_fr, region_ch}
-use Rattle.settings.specs.declared.Settings.{Settings}
+use Rattle.settings.specs.Settings.{feminine, new_spelling, region_fr, region_ch, Settings}
 use Rattle.cardinals.specs.Lexicon.{Lexicon}
 use Rattle.fr.specs.FrTables.{units, tens, teens, megas}
 

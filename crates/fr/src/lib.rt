@@ -6,27 +6,22 @@ mod pool; // pool.rt: the texts
 ghost use Rattle.std.specs.Prelude.{◌≡◌, false, not, ◌&&◌, ◌∷◌, ◌++◌, ◌-◌, ◌*◌, ◌≤◌, ◌<◌, eqb, length};
 ghost use Rattle.base.specs.Utf8.{utf8, form1};
 ghost use Rattle.base.specs.Answer.{fitted, Answers};
-ghost use Rattle.base.specs.Measure.{measure_of};
+ghost use Rattle.base.specs.Refused.{answer_of};
+ghost use Rattle.base.specs.Measure.{size_of};
 ghost use Rattle.base.specs.Decides.{Decides};
 ghost use Rattle.base.specs.Room.{longest_piece};
-ghost use Rattle.settings.specs.Settings.{french_ranges, Within};
+ghost use Rattle.settings.specs.Chosen.{french_numbers_of};
 ghost use Rattle.words.specs.Part.{part};
 ghost use Rattle.plan.specs.Phrase.{phrase_of};
-ghost use Rattle.plan.specs.Plan.{pieces, says};
+ghost use Rattle.plan.specs.Plan.{pieces};
 ghost use Rattle.fr.specs.Pool.{fr_pool};
 ghost use Rattle.fr.specs.FrTables.{units, teens};
 ghost use Rattle.fr.specs.Rules.{is_mille, french_joiner, cent_word, counts_on, four_twenties, takes_et, is_une, unit_word, ten_word, round_word, scale_word, without_e};
 ghost use Rattle.fr.specs.Placed.{Known, Placed, Plural};
 
-use base::{Answer, Measure};
-use settings::{FEMININE, Settings};
-
-// The numbers of these settings.
-const REFORMED: u8 = 1;
-
-const FR: u8 = 0;
-
-const CH: u8 = 2;
+use base::{Refusal, Size};
+use settings::{French, Region, Spelling};
+use words::extents::Spaces;
 
 // The places of the words that stand in no table.
 pub const ZERO: u16 = places::ZERO;
@@ -42,29 +37,34 @@ pub const PREMIER: u16 = places::PREMIER;
 pub const IEME: u16 = places::IEME;
 
 // The texts. An array is made on the stack where it is used, so that it is made once a call and lent on.
+#[tactic(auto, unfolding(crate::specs::Pool::fr_pool))]
 pub fn texts() -> [u8; pool::SIZE]
     ensures { result ≡ fr_pool }
 {
     pool::POOL
 }
 
-// Answers with what the first n pieces of a plan say.
-pub fn speak(plan: &[u32], n: usize, out: &mut [u8]) -> Answer
-    requires { (n ≤ length plan.now) × (n ≤ 1000) }
-    ensures answers { Answers result out.old out.new (fitted out.old (phrase_of (says fr_pool plan.now n))) }
-    ensures length_bound { result.length ≤ longest_piece * n }
+// Writes what a plan says, and tells its length.
+pub fn speak(plan: &[u32], out: &mut [u8]) -> Result<usize, Refusal>
+    requires { length plan.now ≤ 1000 }
+    ensures answers { Answers (answer_of result) out.old out.new (fitted out.old (phrase_of (pieces fr_pool plan.now))) }
+    ensures length_bound { (answer_of result).length ≤ longest_piece * length plan.now }
 {
     let lent = texts();
-    plan::speak(&lent, plan, n, out)
+    plan::speak(&lent, plan, out)
 }
 
-// The measure of what they say: the texts are not made for it.
-pub fn measure(plan: &[u32], n: usize) -> Measure
-    requires { (n ≤ length plan.now) × (n ≤ 1000) }
-    ensures { result ≡ measure_of (phrase_of (says fr_pool plan.now n)) }
+// The size of what it says: the texts are not made for it.
+pub fn measure(plan: &[u32]) -> Size
+    requires { length plan.now ≤ 1000 }
+    ensures { result ≡ size_of (phrase_of (pieces fr_pool plan.now)) }
 {
     let counts = pool::COUNTS;
-    plan::measure::measure(pool::UNSPACED, &counts, plan, n)
+    let spaces = Spaces {
+        unspaced: pool::UNSPACED,
+        counts: &counts,
+    };
+    plan::measure::measure(spaces, plan)
 }
 
 // Whether s is the phrase of a plan.
@@ -76,67 +76,54 @@ pub fn stands(plan: &[u32], s: &[u8]) -> bool
 }
 
 // The byte that joins words.
-pub fn joiner(settings: Settings) -> u8
-    ensures { result ≡ french_joiner settings }
+pub fn joiner(settings: French) -> u8
+    ensures { result ≡ french_joiner (french_numbers_of settings) }
 {
-    if settings.reformed == REFORMED {
-        b'-'
-    } else {
-        b' '
+    match settings.spelling {
+        Spelling::Reformed => b'-',
+        Spelling::Old => b' ',
     }
 }
 
 // Whether a unit at this order is `une`.
-pub fn is_une(settings: Settings, order: usize, u: usize) -> bool
-    ensures { result ≡ is_une settings order u }
+pub fn is_une(settings: French, order: usize, u: usize) -> bool
+    ensures { result ≡ is_une (french_numbers_of settings) order u }
 {
-    if u == 1 {
-        if order == 0 {
-            settings.gender == FEMININE
-        } else {
-            false
-        }
-    } else {
-        false
-    }
+    u == 1 && order == 0 && settings.feminine
 }
 
 // Whether the tens digit t is written by the tens word below and a teen.
-pub fn counts_on(settings: Settings, t: usize) -> bool
-    ensures { result ≡ counts_on settings t }
+pub fn counts_on(settings: French, t: usize) -> bool
+    ensures { result ≡ counts_on (french_numbers_of settings) t }
 {
-    if settings.region == FR {
-        if t == 7 { true } else { t == 9 }
-    } else {
-        false
-    }
+    settings.region == Region::Fr && (t == 7 || t == 9)
 }
 
 // Whether the tens digit t is `quatre-vingt`.
-pub fn four_twenties(settings: Settings, t: usize) -> bool
-    ensures { result ≡ four_twenties settings t }
+pub fn four_twenties(settings: French, t: usize) -> bool
+    ensures { result ≡ four_twenties (french_numbers_of settings) t }
 {
-    if t == 8 { settings.region != CH } else { false }
+    t == 8 && settings.region != Region::Ch
 }
 
 // Whether `et` stands between the tens word and what follows it.
-pub fn takes_et(settings: Settings, t: usize, u: usize) -> bool
-    ensures { result ≡ takes_et settings t u }
+pub fn takes_et(settings: French, t: usize, u: usize) -> bool
+    ensures { result ≡ takes_et (french_numbers_of settings) t u }
 {
-    if u == 1 {
-        if four_twenties(settings, t) {
-            return false;
-        }
-        if t == 9 { settings.region != FR } else { true }
+    if u != 1 || four_twenties(settings, t) {
+        return false;
+    }
+    if t == 9 {
+        settings.region != Region::Fr
     } else {
-        false
+        true
     }
 }
 
 // The word of a unit.
-pub fn unit(settings: Settings, order: usize, u: usize) -> u16
+pub fn unit(settings: French, order: usize, u: usize) -> u16
     requires { (0 < u) × (u < 10) }
-    ensures { Placed result (unit_word settings order u) }
+    ensures { Placed result (unit_word (french_numbers_of settings) order u) }
 {
     if is_une(settings, order, u) {
         return places::UNE;
@@ -153,9 +140,9 @@ pub fn teen(u: usize) -> u16
 }
 
 // The word of a tens digit.
-pub fn ten(settings: Settings, t: usize) -> u16
-    requires { (1 < t) × (t < 10) × Within (french_ranges settings) × (counts_on settings t ≡ false) }
-    ensures { Placed result (ten_word settings t) }
+pub fn ten(settings: French, t: usize) -> u16
+    requires { (1 < t) × (t < 10) × (counts_on (french_numbers_of settings) t ≡ false) }
+    ensures { Placed result (ten_word (french_numbers_of settings) t) }
 {
     if four_twenties(settings, t) {
         return places::QUATRE_VINGT;
@@ -164,14 +151,12 @@ pub fn ten(settings: Settings, t: usize) -> u16
 }
 
 // The word of a tens digit that no unit follows.
-pub fn round(settings: Settings, order: usize, t: usize) -> u16
-    requires { (1 < t) × (t < 10) × Within (french_ranges settings) × (counts_on settings t ≡ false) }
-    ensures { Placed result (round_word settings order t) }
+#[tactic(auto, using(crate::proofs::Tables::round_mille, crate::proofs::Tables::round_other))]
+pub fn round(settings: French, order: usize, t: usize) -> u16
+    requires { (1 < t) × (t < 10) × (counts_on (french_numbers_of settings) t ≡ false) }
+    ensures { Placed result (round_word (french_numbers_of settings) order t) }
 {
-    if order == 1 {
-        return ten(settings, t);
-    }
-    if four_twenties(settings, t) {
+    if order != 1 && four_twenties(settings, t) {
         return places::QUATRE_VINGT + 1;
     }
     ten(settings, t)
@@ -181,24 +166,22 @@ pub fn round(settings: Settings, order: usize, t: usize) -> u16
 fn takes_s(order: usize, below: usize) -> bool
     ensures { result ≡ (eqb below 0 && not (is_mille order)) }
 {
-    if below == 0 { order != 1 } else { false }
+    below == 0 && order != 1
 }
 
 // The unit and `cent` of a hundreds digit above 1, which are one text.
-fn hundred(settings: Settings, h: usize) -> u16
+fn hundred(settings: French, h: usize) -> u16
     requires { (1 < h) × (h < 10) }
-    ensures { Plural result (form1 units (h - 1) ++ (french_joiner settings ∷ utf8 "cent")) }
+    ensures { Plural result (form1 units (h - 1) ++ (french_joiner (french_numbers_of settings) ∷ utf8 "cent")) }
 {
-    if settings.reformed == REFORMED {
-        return places::HUNDREDS[1][h];
-    }
-    places::HUNDREDS[0][h]
+    places::HUNDREDS[settings.spelling as usize][h]
 }
 
 // The unit and `cent` or `cents`: the plural is the same part of the pool with one byte more.
-pub fn hundreds(settings: Settings, order: usize, h: usize, below: usize) -> u16
+#[tactic(auto, using(crate::proofs::Tables::known_fits, crate::proofs::Tables::cents, crate::proofs::Tables::no_cents))]
+pub fn hundreds(settings: French, order: usize, h: usize, below: usize) -> u16
     requires { (1 < h) × (h < 10) }
-    ensures { Placed result (form1 units (h - 1) ++ (french_joiner settings ∷ cent_word order below)) }
+    ensures { Placed result (form1 units (h - 1) ++ (french_joiner (french_numbers_of settings) ∷ cent_word order below)) }
 {
     let p = hundred(settings, h);
     if takes_s(order, below) {
@@ -213,27 +196,20 @@ pub fn scale(order: usize, g: usize) -> u16
     ensures { Placed result (scale_word order g) }
 {
     let p = places::MEGAS[order];
-    if order == 1 {
-        return p;
-    }
-    if g == 1 {
+    if order == 1 || g == 1 {
         return p;
     }
     p + 1
 }
 
 // A text without its final `e`, which is one byte less.
+#[tactic(auto, using(crate::proofs::Stems::stem_some, crate::proofs::Stems::stem_less, crate::proofs::Stems::stem_same))]
 pub fn stem(lent: &[u8], place: u16) -> u16
     requires { (lent.now ≡ fr_pool) × Known place }
     ensures { (part fr_pool result ≡ without_e (part fr_pool place)) × (0 < length (part fr_pool place)) }
 {
-    let w = words::part(lent, place as u32);
-    let n = w.len();
-    if n == 0 {
-        return place;
+    match words::part(lent, u32::from(place)).last() {
+        Some(b'e') => place - 1,
+        _ => place,
     }
-    if w[n - 1] == b'e' {
-        return place - 1;
-    }
-    place
 }

@@ -9,7 +9,7 @@ use Rattle.tables.proofs.Tests.{clash_of as clash}
 use Rattle.base.specs.Claim.{Inverse}
 use Rattle.base.proofs.Closing as closing
 use Rattle.settings.specs.Settings.{french_ranges}
-use Rattle.settings.specs.declared.Settings.{Settings}
+use Rattle.settings.specs.Settings.{Settings}
 use Rattle.settings.proofs.Ranges.{in_range, behind_settings}
 use Rattle.figures.specs.Groups.{total}
 use Rattle.figures.specs.Refusals.{french_digit_limit, cardinal_refusals, ordinal_refusals, Admitted}
@@ -22,7 +22,7 @@ use Rattle.fr.specs.Ordinal.{nth_phrase}
 use Rattle.fr.specs.Grammar.{SaysNth}
 use Rattle.fr.proofs.Ordinals.{says_nth, said_nth}
 use Rattle.fr_read.specs.Reading.{meanings, is_minus, behind_minus, guessed}
-use Rattle.fr_read.proofs.Decided.{right, right_nth}
+use Rattle.fr_read.proofs.Decided.{found, found_nth}
 use Rattle.fr_calls.specs.FrCalls.{fr_to_cardinal, fr_to_ordinal, fr_from_cardinal, fr_from_ordinal}
 
 module _ (S : Settings) where
@@ -47,9 +47,9 @@ module _ (S : Settings) where
   cardinals v =
       closing.inverse v (λ t a. behind_settings (french_ranges S) (cardinal_refusals french_digit_limit t) v ∙ a) (λ t a. sym (behind_settings (french_ranges S) (cardinal_refusals french_digit_limit t) v) ∙ a)
       (laws.readable (laws.cardinals (french S)) (omega arith) (omega arith) (λ s. is_minus (meanings s)) (λ s. total (guessed (behind_minus (meanings s))))
-      (λ s. right S (in_range (french_ranges S) v) s _ refl _ refl))
+      (found S (in_range (french_ranges S) v)))
 
   pub ordinals : (fr_from_ordinal S).refusal ≡ 0 → Inverse (λ (t : List ℕ). Admitted (ordinal_refusals french_digit_limit t)) (fr_to_ordinal S) (fr_from_ordinal S)
   ordinals v =
       closing.inverse v (λ t a. behind_settings (french_ranges S) (ordinal_refusals french_digit_limit t) v ∙ a) (λ t a. sym (behind_settings (french_ranges S) (ordinal_refusals french_digit_limit t) v) ∙ a)
-      (laws.readable nths (omega arith) (omega arith) (λ s. false) (λ s. total (guessed (meanings s))) (λ s. right_nth S (in_range (french_ranges S) v) s _ refl))
+      (laws.readable nths (omega arith) (omega arith) (λ s. false) (λ s. total (guessed (meanings s))) (found_nth S (in_range (french_ranges S) v)))

@@ -4,25 +4,15 @@ use Prim.Native.Nat.{ℕ, zero, suc, ◌+◌, ◌*◌, ◌/◌, ◌%◌, ◌<◌
 use mathlib.Core.Path.{◌≡◌, refl, sym, ap, ◌∙◌}
 use mathlib.Core.List.{List, [], ◌∷◌, ◌++◌, append-nil, append_assoc, map-append}
 use native.Mathlib.Omega.{arith}
-use native.Mathlib.Numerals.{add-one}
-use lib.ListN.{length, take, set, length-set}
-use lib.Seq.{take-suc-set}
+use lib.ListN.{length, length-append}
 use Rattle.base.specs.Join.{Word, spaced_by, joined_by}
 use Rattle.words.specs.Part.{part}
 use Rattle.plan.specs.Phrase.{gap, following, phrase_of}
-use Rattle.plan.specs.Plan.{piece_of, pieces, says}
+use Rattle.plan.specs.Plan.{piece_of, pieces}
 use Rattle.plan.proofs.Laws.{following_append}
 use Rattle.fr.specs.Pool.{fr_pool}
 use Rattle.fr.specs.Placed.{Known}
-use Rattle.fr_plan.specs.Appended.{Pushed, AllKnown, Opens, Appended}
-
--- a number stored at the end of what is written
-pub pushed : (xs : List ℕ) (n s place : ℕ) → n < length xs → Pushed xs n (set xs n (place * 256 + s)) (n + 1) s place
-pushed xs n s place h = record {
-  next = refl;
-  same = length-set xs n (place * 256 + s);
-  more = rw (add-one n, take-suc-set xs n (place * 256 + s)) refl;
-}
+use Rattle.fr_plan.specs.Appended.{AllKnown, Opens, Appended}
 
 pieces_append : (cs ds : List ℕ) → following (pieces fr_pool (cs ++ ds)) ≡ following (pieces fr_pool cs) ++ following (pieces fr_pool ds)
 unfolding pieces
@@ -48,9 +38,9 @@ gap_some zero w h = absurd (omega arith)
 gap_some (suc s) w h = refl
 
 -- nothing is appended
-pub nothing : (k : ℕ) (xs : List ℕ) (n : ℕ) → Appended k xs n xs n []
+pub nothing : (k : ℕ) (xs : List ℕ) → Appended k xs xs []
 unfolding following pieces
-nothing k xs n = record { codes = []; near = omega arith; same = refl; more = sym (append-nil (take n xs)); known = tt; opens = tt; speaks = refl }
+nothing k xs = record { codes = []; near = omega arith; more = sym (append-nil xs); known = tt; opens = tt; speaks = refl }
 
 known_append : (cs ds : List ℕ) → AllKnown cs → AllKnown ds → AllKnown (cs ++ ds)
 known_append [] ds k l = l
@@ -61,23 +51,21 @@ opens_append [] ds k l = l
 opens_append (c ∷ cs) ds k l = k
 
 -- one after the other, in room for both
-pub after : {j k n m r : ℕ} {xs ys zs a b : List ℕ} (i : ℕ) → Appended j xs n ys m a → Appended k ys m zs r b → j + k ≤ i → Appended i xs n zs r (a ++ b)
-after {n = n} {xs = xs} i p q h = record {
+pub after : {j k : ℕ} {xs ys zs a b : List ℕ} (i : ℕ) → Appended j xs ys a → Appended k ys zs b → j + k ≤ i → Appended i xs zs (a ++ b)
+after {xs = xs} i p q h = record {
   codes = p.codes ++ q.codes;
   near = omega (arith, p.near, q.near);
-  same = q.same ∙ p.same;
-  more = q.more ∙ ap (λ (l : List ℕ). l ++ q.codes) p.more ∙ append_assoc (take n xs) p.codes q.codes;
+  more = q.more ∙ ap (λ (l : List ℕ). l ++ q.codes) p.more ∙ append_assoc xs p.codes q.codes;
   known = known_append p.codes q.codes p.known q.known;
   opens = opens_append p.codes q.codes p.opens q.opens;
   speaks = rw (pieces_append p.codes q.codes, p.speaks, q.speaks) refl;
 }
 
 -- the same bytes, in more room
-pub likewise : {k n r : ℕ} {xs ys a b : List ℕ} (i : ℕ) → Appended k xs n ys r a → k ≤ i → a ≡ b → Appended i xs n ys r b
+pub likewise : {k : ℕ} {xs ys a b : List ℕ} (i : ℕ) → Appended k xs ys a → k ≤ i → a ≡ b → Appended i xs ys b
 likewise i p h e = record {
   codes = p.codes;
   near = omega (arith, p.near);
-  same = p.same;
   more = p.more;
   known = p.known;
   opens = p.opens;
@@ -85,19 +73,18 @@ likewise i p h e = record {
 }
 
 -- a word behind a separator
-pub one_word : {n r s place : ℕ} {xs ys : List ℕ} → Pushed xs n ys r s place → s < 256 → 0 < s → Known place → Appended 1 xs n ys r (s ∷ part fr_pool place)
-one_word {s = s} {place = place} p h z k = record {
+pub one_word : {xs ys : List ℕ} (s place : ℕ) → ys ≡ xs ++ (place * 256 + s) ∷ [] → s < 256 → 0 < s → Known place → Appended 1 xs ys (s ∷ part fr_pool place)
+one_word {xs = xs} s place e h z k = record {
   codes = (place * 256 + s) ∷ [];
-  near = omega (arith, p.next);
-  same = p.same;
-  more = p.more;
+  near = rw (e, length-append) (omega arith);
+  more = e;
   known = (code_known s place h k, tt);
   opens = code_opens s place h z;
   speaks = piece s place h ∙ gap_some s (part fr_pool place) z;
 }
 
 -- by its text
-pub as_word : {k n r j : ℕ} {xs ys v w : List ℕ} → Appended k xs n ys r (j ∷ v) → v ≡ w → Appended k xs n ys r (j ∷ w)
+pub as_word : {k j : ℕ} {xs ys v w : List ℕ} → Appended k xs ys (j ∷ v) → v ≡ w → Appended k xs ys (j ∷ w)
 as_word a e = rw (← e) a
 
 -- the phrase of a plan from its beginning
@@ -113,6 +100,5 @@ phrase_is j (c ∷ cs) ws o e = go (c % 256) o ws e
     go (suc s) o [] e = let z : ◌≡◌ {A = ℕ} (suc (length (part fr_pool (c / 256) ++ following (pieces fr_pool cs)))) 0 = ap length e in absurd (omega arith)
     go (suc s) o (w ∷ ws) e = cc
 
-pub whole_phrase : {k r : ℕ} {xs ys : List ℕ} (j : ℕ) (ws : List Word) → Appended k xs 0 ys r (spaced_by j ws) → phrase_of (says fr_pool ys r) ≡ joined_by j ws
-unfolding says
+pub whole_phrase : {k : ℕ} {ys : List ℕ} (j : ℕ) (ws : List Word) → Appended k [] ys (spaced_by j ws) → phrase_of (pieces fr_pool ys) ≡ joined_by j ws
 whole_phrase j ws t = ap (λ (l : List ℕ). phrase_of (pieces fr_pool l)) t.more ∙ phrase_is j t.codes ws t.opens t.speaks

@@ -1,29 +1,26 @@
 -- The cases of the rules' words as the code's tests have them.
 -- Assumes nothing.
-use Prim.Native.Nat.{ℕ, zero, suc, ◌-◌, ◌/◌, ◌%◌, ◌^◌, ◌<◌, ◌≤◌}
-use mathlib.Core.Path.{◌≡◌, refl, sym, ap, ◌∙◌, subst}
+use Prim.Native.Nat.{ℕ, zero, suc, ◌-◌, ◌/◌, ◌%◌, ◌<◌, ◌≤◌}
+use mathlib.Core.Path.{◌≡◌, refl, sym, ap, ◌∙◌}
 use mathlib.Core.Bool.{Bool, true, false, cond, ◌&&◌, ◌||◌}
 use mathlib.Core.List.{List, [], ◌∷◌, ◌++◌, append-nil, append_assoc}
 use native.Mathlib.Omega.{arith}
-use borrow.Author.Tests.{eqb-true, eqb-false}
+use borrow.Author.Tests.{eqb-true}
 use lib.Dec.{eqb}
 use lib.ListN.{length, get_or}
 use Rattle.tables.proofs.Tests.{both_hold}
 use Rattle.base.specs.Utf8.{utf8, form1}
 use Rattle.base.specs.Join.{Word, spaced_by}
 use Rattle.base.specs.Signs.{space, hyphen}
-use Rattle.settings.specs.declared.Settings.{Settings}
+use Rattle.settings.specs.Settings.{Settings}
 use Rattle.figures.specs.Groups.{total}
-use Rattle.figures.proofs.Laws.Groups.{total_lt}
-use Rattle.groups.specs.Highest.{ZeroFrom}
+use Rattle.groups.specs.declared.number.Number.{Number}
 use Rattle.cardinals.specs.Cardinal.{group_of, cardinal_words}
 use Rattle.cardinals.specs.Listed.{listed}
 use Rattle.cardinals.proofs.Numbers.{cardinal_zero}
 use Rattle.cardinals.proofs.Arrays.{listed_more, cardinal_listed}
 use Rattle.fr.specs.FrTables.{units, tens, teens}
 use Rattle.fr.specs.Rules.{is_reformed, in_fr, is_mille, french_joiner, cent_word, hundred_words, counts_on, ten_word, round_word, takes_et, link, unit_word, pair_word, tens_words, scale_word, scale_words, french_group, french}
-use Rattle.fr.proofs.Deciders.{mille_not}
-use Rattle.fr_plan.specs.Groups34.{Groups34}
 
 either : {P : Type 0} (a b : Bool) → (a || b) ≡ true → (a ≡ true → P) → (b ≡ true → P) → P
 either true b e f g = f refl
@@ -75,16 +72,6 @@ module _ (S : Settings) where
     link_hyphen e = rw e refl
 
   -- tens and units
-  pub counts_below : (t : ℕ) → counts_on S t ≡ true → counts_on S (t - 1) ≡ false
-  counts_below t e =
-      let p = both_hold (in_fr S) (eqb t 7 || eqb t 9) e in
-      either (eqb t 7) (eqb t 9) p.1 (λ q. rw (eqb-true t 7 q, p.0) refl) (λ q. rw (eqb-true t 9 q, p.0) refl)
-
-  pub counts_high : (t : ℕ) → counts_on S t ≡ true → 1 < t - 1
-  counts_high t e =
-      let p = both_hold (in_fr S) (eqb t 7 || eqb t 9) e in
-      either (eqb t 7) (eqb t 9) p.1 (λ q. omega (arith, eqb-true t 7 q)) (λ q. omega (arith, eqb-true t 9 q))
-
   counted_round : (k t : ℕ) → counts_on S t ≡ true → ten_word S (t - 1) ++ (hyphen ∷ form1 teens 0) ≡ round_word S k t
   unfolding ten_word round_word form1 tens teens
   counted_round k t e =
@@ -150,12 +137,6 @@ module _ (j k g : ℕ) where
       go (suc k) n = alone j (scale_word (suc k) g)
 
 -- a group
-pub bare_mille : (k g : ℕ) → k ≡ 1 → eqb g 1 ≡ (is_mille k && eqb g 1)
-bare_mille k g e = rw e refl
-
-pub bare_not : (k g : ℕ) → (k ≡ 1 → ⊥) → false ≡ (is_mille k && eqb g 1)
-bare_not k g n = rw (mille_not k n) refl
-
 module _ (S : Settings) (j k g : ℕ) where
   pub group_none : g ≡ 0 → [] ≡ spaced_by j (group_of (french S) k g)
   group_none e = rw e refl
@@ -190,21 +171,17 @@ pub groups_more : (S : Settings) (j n : ℕ) (gs : List ℕ) → (n ≡ 0 → �
 groups_more S j n gs z =
     spaced_append j (group_of (french S) (n - 1) (get_or gs (n - 1) 0)) (listed (french S) (n - 1) gs) ∙ ap (spaced_by j) (listed_more (french S) gs n z)
 
--- 34 groups are below 1000 ^ 34
-pub groups_hold : (gs : List ℕ) → Groups34 gs → total gs < 1000 ^ 34
-groups_hold gs g = subst (λ (k : ℕ). total gs < 1000 ^ k) g.0 (total_lt gs g.1)
-
 -- a cardinal
-module _ (S : Settings) (gs : List ℕ) (z m : Bool) (e : z ≡ eqb (total gs) 0) where
-  pub card_zero : z ≡ true → french_joiner S ∷ utf8 "zéro" ≡ spaced_by (french_joiner S) (cardinal_words (french S) m (total gs))
+module _ (S : Settings) (x : Number 34) (m : Bool) where
+  pub card_zero : total x.groups ≡ 0 → french_joiner S ∷ utf8 "zéro" ≡ spaced_by (french_joiner S) (cardinal_words (french S) m (total x.groups))
   unfolding french
-  card_zero t = ap (spaced_by (french_joiner S)) (sym (cardinal_zero (french S) m (total gs) (eqb-true (total gs) 0 (sym e ∙ t))))
+  card_zero e = ap (spaced_by (french_joiner S)) (sym (cardinal_zero (french S) m (total x.groups) e))
 
-  module _ (f : z ≡ false) (g : Groups34 gs) (n : ℕ) (o : ZeroFrom gs n) (h : n ≤ 34) where
-    pub card_minus : m ≡ true → (french_joiner S ∷ utf8 "moins") ++ spaced_by (french_joiner S) (listed (french S) n gs) ≡ spaced_by (french_joiner S) (cardinal_words (french S) m (total gs))
+  module _ (s : total x.groups ≡ 0 → ⊥) where
+    pub card_minus : m ≡ true → (french_joiner S ∷ utf8 "moins") ++ spaced_by (french_joiner S) (listed (french S) x.orders x.groups) ≡ spaced_by (french_joiner S) (cardinal_words (french S) m (total x.groups))
     unfolding french
-    card_minus d = rw d (ap (spaced_by (french_joiner S)) (cardinal_listed (french S) gs true n g.1 g.0 o h (eqb-false (total gs) 0 (sym e ∙ f))))
+    card_minus d = rw d (ap (spaced_by (french_joiner S)) (cardinal_listed (french S) x true refl s))
 
-    pub card_plain : m ≡ false → spaced_by (french_joiner S) (listed (french S) n gs) ≡ spaced_by (french_joiner S) (cardinal_words (french S) m (total gs))
+    pub card_plain : m ≡ false → spaced_by (french_joiner S) (listed (french S) x.orders x.groups) ≡ spaced_by (french_joiner S) (cardinal_words (french S) m (total x.groups))
     unfolding french
-    card_plain d = rw d (ap (spaced_by (french_joiner S)) (cardinal_listed (french S) gs false n g.1 g.0 o h (eqb-false (total gs) 0 (sym e ∙ f))))
+    card_plain d = rw d (ap (spaced_by (french_joiner S)) (cardinal_listed (french S) x false refl s))

@@ -1,17 +1,11 @@
 -- What a planner of French words promises of its plan. A plan's numbers are those of `plan`: a word's place times 256, and its separator.
 -- They serve the code; no call's contract cites them.
 -- Assumes nothing.
-use Rattle.std.specs.Prelude.{ℕ, ◌+◌, ◌*◌, ◌/◌, ◌%◌, ◌≤◌, ◌≡◌, List, [], ◌∷◌, ◌++◌, length, take}
+use Rattle.std.specs.Prelude.{ℕ, ◌+◌, ◌/◌, ◌%◌, ◌≤◌, ◌≡◌, List, [], ◌∷◌, ◌++◌, length}
 use Rattle.plan.specs.Phrase.{following}
 use Rattle.plan.specs.Plan.{pieces}
 use Rattle.fr.specs.Pool.{fr_pool}
 use Rattle.fr.specs.Placed.{Known}
-
--- one number more: the plan xs of which n are written has become ys with r written, the last of them this word behind this separator
-pub record Pushed (xs : List ℕ) (n : ℕ) (ys : List ℕ) (r separator place : ℕ) : Type 0 where
-  pub next : r ≡ n + 1
-  pub same : length ys ≡ length xs
-  pub more : take r ys ≡ take n xs ++ ((place * 256 + separator) ∷ [])
 
 -- every number is a French text's
 abbrev pub AllKnown : List ℕ → Type 0
@@ -23,12 +17,11 @@ abbrev pub Opens : List ℕ → Type 0
 Opens [] = Unit {0}
 Opens (c ∷ cs) = c % 256 ≡ 0 → ⊥
 
--- the plan xs of which n are written has become ys with r written, by at most k more, which say the bytes b, separators included
-pub record Appended (k : ℕ) (xs : List ℕ) (n : ℕ) (ys : List ℕ) (r : ℕ) (b : List ℕ) : Type 0 where
+-- the plan xs has become ys by at most k pieces more, which say the bytes b, separators included
+pub record Appended (k : ℕ) (xs ys b : List ℕ) : Type 0 where
   pub codes : List ℕ
-  pub near : r ≤ n + k
-  pub same : length ys ≡ length xs
-  pub more : take r ys ≡ take n xs ++ codes
+  pub near : length ys ≤ length xs + k
+  pub more : ys ≡ xs ++ codes
   pub known : AllKnown codes
   pub opens : Opens codes
   pub speaks : following (pieces fr_pool codes) ≡ b

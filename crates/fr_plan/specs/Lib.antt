@@ -1,2 +1,1 @@
 pub mod Appended
-pub mod Groups34

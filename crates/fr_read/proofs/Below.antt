@@ -7,10 +7,10 @@ use mathlib.Core.List.{List, [], ◌∷◌, ◌++◌, append_assoc}
 use native.Mathlib.Omega.{arith}
 use borrow.Author.Tests.{eq-eqb, ne_eqb, eqb-true}
 use lib.Dec.{eqb}
-use lib.ListN.{drop, set, replicate, replicate-append-replicate}
+use lib.ListN.{length, take, drop, set, replicate, replicate-append-replicate}
 use Rattle.groups.specs.Highest.{ZeroFrom}
 use Rattle.groups.proofs.Highest.{zeros_all, zeros_then, zeros_past}
-use Rattle.plan.proofs.Laws.{from, from_is}
+use Rattle.std.proofs.lemmas.List.{take_rest}
 use Rattle.fr_read.specs.Reading.{meanings, Group, guess, seems, groups_read}
 use Rattle.fr_read.proofs.Bounds.{reads_length}
 
@@ -87,10 +87,10 @@ module _ (xs : List ℕ) (k : ℕ) (z : xs ≡ zeros k ++ drop k xs) (o v : ℕ)
   set_below = one_set ∙ ap (λ (l : List ℕ). zeros o ++ l) (sym behind_set)
 
   -- the code's answer: the group at the front of the text s, and those below it of the part behind it
-  pub reads_below : (s ys : List ℕ) (at : ℕ) → seems 0 0 (meanings s) ≡ guess v o (meanings (drop at s)) → ys ≡ groups_read o (seems 0 0 (meanings (from at s))) ++ drop o (set xs o v)
+  pub reads_below : (s ys : List ℕ) (at : ℕ) → seems 0 0 (meanings s) ≡ guess v o (meanings (drop at s)) → ys ≡ groups_read o (seems 0 0 (meanings (take (length s - at) (drop at s)))) ++ drop o (set xs o v)
       → ys ≡ groups_read k (seems 0 0 (meanings s)) ++ drop k xs
   reads_below s ys at e r =
       let q : suc (o + (k - suc o)) ≡ k = omega arith in
       let g = groups_read o (seems 0 0 (meanings (drop at s))) in
       let p : groups_read k (seems 0 0 (meanings s)) ≡ g ++ (v ∷ zeros (k - suc o)) = ap (groups_read k) e ∙ ap (λ (i : ℕ). groups_read i (guess v o (meanings (drop at s)))) (sym q) ∙ one_below v o (k - suc o) (meanings (drop at s)) in
-      r ∙ rw (from_is at s, behind_set) (sym (append_assoc g (v ∷ zeros (k - suc o)) (drop k xs))) ∙ ap (λ (l : List ℕ). l ++ drop k xs) (sym p)
+      r ∙ rw (take_rest s at, behind_set) (sym (append_assoc g (v ∷ zeros (k - suc o)) (drop k xs))) ∙ ap (λ (l : List ℕ). l ++ drop k xs) (sym p)

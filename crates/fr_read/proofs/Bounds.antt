@@ -8,7 +8,6 @@ use native.Mathlib.Omega.{arith}
 use lib.Dec.{eqb, ltb}
 use lib.ListN.{length, length-append}
 use Rattle.figures.specs.Groups.{Groups}
-use Rattle.fr_plan.specs.Groups34.{Groups34}
 use Rattle.fr_read.specs.Reading.{grow, times, at_least_one, Group, guess, seems, groups_read, guessed}
 
 pub grow_small : (c m : ℕ) → grow c m < 100
@@ -68,6 +67,6 @@ reads_length (suc k) g = go (eqb g.order k) (reads_length k (seems 0 0 g.rest)) 
     go true p q = rw (length-append (groups_read k (seems 0 0 g.rest)) (g.value ∷ [])) (omega (arith, p))
     go false p q = rw (length-append (groups_read k g) (0 ∷ [])) (omega (arith, q))
 
-pub guessed_groups : (ms : List ℕ) → Groups34 (guessed ms)
+pub guessed_groups : (ms : List ℕ) → (length (guessed ms) ≡ 34) × Groups (guessed ms)
 unfolding guessed
 guessed_groups ms = (reads_length 34 (seems 0 0 ms), reads_groups 34 (seems 0 0 ms) (seems_below 0 0 ms (omega arith) (omega arith)))

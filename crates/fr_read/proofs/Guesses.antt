@@ -12,7 +12,7 @@ use lib.Dec.{eqb}
 use lib.ListN.{length}
 use Rattle.base.specs.Signs.{space, hyphen}
 use Rattle.settings.specs.Settings.{french_ranges, Within}
-use Rattle.settings.specs.declared.Settings.{Settings}
+use Rattle.settings.specs.Settings.{Settings}
 use Rattle.figures.specs.Groups.{total}
 use Rattle.cardinals.specs.Cardinal.{group_at, group_of, groups_below, cardinal_words, cardinal_phrase}
 use Rattle.tokens.specs.Tokens.{is_gap}

@@ -13,7 +13,7 @@ use Rattle.tokens.specs.Tokens.{split, full_key, key}
 use Rattle.meanings.specs.Lookup.{lookup}
 use Rattle.fr_meanings.specs.Meanings.{shifts, table, meaning_of}
 use Rattle.settings.specs.Settings.{french_settings, french_ranges, Within}
-use Rattle.settings.specs.declared.Settings.{Settings}
+use Rattle.settings.specs.Settings.{Settings}
 use Rattle.fr.specs.FrTables.{units, tens, teens, megas}
 use Rattle.fr.specs.Rules.{ten_word, round_word, link, unit_word, pair_word, tens_words, mega_name, scale_word, without_e, nth}
 use Rattle.base.specs.Same.{same_text}

@@ -10,7 +10,7 @@ use lib.Dec.{eqb, ltb}
 use Rattle.tables.proofs.Tests.{both_hold}
 use Rattle.base.specs.Utf8.{utf8, form1}
 use Rattle.settings.specs.Settings.{french_ranges, Within}
-use Rattle.settings.specs.declared.Settings.{Settings}
+use Rattle.settings.specs.Settings.{Settings}
 use Rattle.fr.specs.FrTables.{units}
 use Rattle.fr.specs.Rules.{is_mille, cent_word, hundred_words, tens_words, number_words, scale_words, french_group}
 use Rattle.fr_read.specs.Reading.{meanings, grow, times, at_least_one, guess, seems}

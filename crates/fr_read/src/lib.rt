@@ -1,23 +1,22 @@
 #![tactic(auto)]
 // Readers of French phrases. The meanings of the words are added up, leniently, to a number; then the number's own phrase, by the speller's
 // plan, is held against the bytes. So everything that depends on a setting stands in the planner alone.
-ghost use Rattle.std.specs.Prelude.{◌≡◌, ◌∷◌, ◌++◌, ℕ, ◌+◌, ◌-◌, ◌%◌, ◌≤◌, ◌<◌, eqb, ltb, length, drop, replicate};
+ghost use Rattle.std.specs.Prelude.{◌≡◌, ◌∷◌, ◌++◌, ℕ, ◌+◌, ◌-◌, ◌%◌, ◌≤◌, ◌<◌, length, drop, replicate, is_some, unwrap_or};
 ghost use Rattle.base.specs.Decides.{Decides};
 ghost use Rattle.figures.specs.Groups.{total};
-ghost use Rattle.figures.specs.Seen.{ReadOf};
-ghost use Rattle.settings.specs.Settings.{french_ranges, Within};
+ghost use Rattle.groups.specs.Read.{ReadOf};
+ghost use Rattle.settings.specs.Chosen.{french_numbers_of};
 ghost use Rattle.cardinals.specs.Cardinal.{cardinal_phrase};
 ghost use Rattle.cardinals.specs.Grammar.{Says};
 ghost use Rattle.fr.specs.Rules.{french};
 ghost use Rattle.fr.specs.Ordinal.{nth_phrase};
 ghost use Rattle.fr.specs.Grammar.{SaysNth};
-ghost use Rattle.groups.specs.Highest.{ZeroFrom, Highest};
-ghost use Rattle.fr_plan.specs.Groups34.{Groups34};
+ghost use Rattle.groups.specs.Highest.{ZeroFrom};
 ghost use Rattle.fr_read.specs.Reading.{meanings, grow as grow_of, times as times_of, at_least_one, guess as guess_of, seems, groups_read, is_minus, behind_minus, guessed};
 
-use figures::Read;
-use fr_plan::{ORDERS, PLAN};
-use settings::Settings;
+use fr_plan::ORDERS;
+use groups::{Figure, Number};
+use settings::French;
 
 // The meaning of the minus word, and those of the scale words: an order above this.
 const MINUS: u16 = 2001;
@@ -60,35 +59,28 @@ fn grow(c: u16, m: u16) -> u16
     requires { (c < 100) × (m ≤ 100) }
     ensures { result ≡ grow_of c m }
 {
-    if c == 4 {
-        if m == 20 { 80 } else { sum(c, m) }
-    } else {
-        sum(c, m)
-    }
+    if c == 4 && m == 20 { 80 } else { sum(c, m) }
 }
 
 // How many hundreds `cent` is after c.
 fn times(c: u16) -> u16
     ensures { result ≡ times_of c }
 {
-    if c == 0 {
-        return 1;
-    }
-    if c < 10 { c } else { c % 10 }
+    if c == 0 { 1 } else { c % 10 }
 }
 
 // What a scale word is after the number v.
 fn one(v: u16) -> u16
     ensures { result ≡ at_least_one v }
 {
-    if v == 0 { 1 } else { v }
+    v.max(1)
 }
 
 // The order of a scale word's meaning.
 fn order_of(m: u16) -> usize
     ensures { result ≡ m - 1000 }
 {
-    if m < SCALE { 0 } else { (m - SCALE) as usize }
+    usize::from(m.saturating_sub(SCALE))
 }
 
 // The number below a hundred from a place on: its words, up to one that means a hundred or more, or the end, which means 0.
@@ -99,8 +91,8 @@ fn low(s: &[u8], from: usize) -> Part
 {
     let mut c: u16 = 0;
     let mut at = from;
-    while at < s.len() {
-        let w = walker::word(s, at);
+    // Not a `for`: where the next word starts is known only once this one was looked up.
+    while let Some(w) = walker::word(s, at) {
         let m = fr_meanings::meaning(w.key);
         at += w.next;
         if HUNDRED <= m {
@@ -126,6 +118,7 @@ fn first_group(s: &[u8]) -> Group
 {
     let mut h: u16 = 0;
     let mut at: usize = 0;
+    // Not a `for`: each turn takes as many words as stand up to the next hundred or scale word.
     while at < s.len() {
         let t = low(s, at);
         at = t.next;
@@ -174,79 +167,61 @@ fn groups(k: usize, s: &[u8], out: &mut [u16; ORDERS]) -> usize
     0
 }
 
-// All groups, and how many orders there are.
-fn guess(s: &[u8], out: &mut [u16; ORDERS]) -> usize
-    ensures { (out.new ≡ guessed (meanings s.now)) × ZeroFrom out.new result × (result ≤ 34) }
+// The number that bytes seem to be.
+fn guess(s: &[u8]) -> Number<ORDERS>
+    ensures { result.groups ≡ guessed (meanings s.now) }
 {
-    *out = [0u16; ORDERS];
-    groups(ORDERS, s, out)
+    let mut gs = [0u16; ORDERS];
+    let orders = groups(ORDERS, s, &mut gs);
+    Number::of_groups(gs, orders)
 }
 
-// How many bytes the minus word and the gap behind it have at the front; 0 where it does not stand there.
-fn sign(s: &[u8]) -> usize
-    ensures { (ltb 0 result ≡ is_minus (meanings s.now)) × (meanings (drop result s.now) ≡ behind_minus (meanings s.now)) × (result ≤ length s.now) }
+// How many bytes the minus word and the gap behind it have at the front, if it stands there.
+fn sign(s: &[u8]) -> Option<usize>
+    ensures found { is_some result ≡ is_minus (meanings s.now) }
+    ensures passed { (meanings (drop (unwrap_or result 0) s.now) ≡ behind_minus (meanings s.now)) × (unwrap_or result 0 ≤ length s.now) }
 {
-    let w = walker::word(s, 0);
-    if w.more {
-        if fr_meanings::meaning(w.key) == MINUS {
-            return w.next;
-        }
-        return 0;
+    let first = walker::word(s, 0)?;
+    if fr_meanings::meaning(first.key) == MINUS {
+        Some(first.next)
+    } else {
+        None
     }
-    0
 }
 
-// Whether s is the cardinal of these groups, which have n orders.
-fn is_cardinal(
-    settings: Settings,
-    zero: bool,
-    negative: bool,
-    n: usize,
-    gs: &[u16; ORDERS],
-    s: &[u8],
-) -> bool
-    requires within { Within (french_ranges settings) × ZeroFrom gs.now n × (n ≤ 34) }
-    requires groups34 { Groups34 gs.now × (zero ≡ eqb (total gs.now) 0) }
-    ensures { Decides result (cardinal_phrase (french settings) negative (total gs.now) ≡ s.now) }
+// Whether s is the cardinal of a number.
+fn is_cardinal(settings: French, negative: bool, number: &Number<ORDERS>, s: &[u8]) -> bool
+    ensures { Decides result (cardinal_phrase (french (french_numbers_of settings)) negative (total number.now.groups) ≡ s.now) }
 {
-    let mut plan = [0u32; PLAN];
-    let k = fr_plan::plan_cardinal(settings, zero, negative, n, gs, &mut plan);
-    fr::stands(&plan[..k], s)
+    let plan = fr_plan::plan_cardinal(settings, negative, number);
+    fr::stands(plan.codes(), s)
 }
 
-// Whether s is the ordinal of these groups, which have n orders.
-fn is_ordinal(settings: Settings, n: usize, gs: &[u16; ORDERS], s: &[u8]) -> bool
-    requires { Within (french_ranges settings) × Groups34 gs.now × Highest gs.now n }
-    ensures { Decides result (nth_phrase settings (total gs.now) ≡ s.now) }
+// Whether s is the ordinal of a number.
+fn is_ordinal(settings: French, number: &Number<ORDERS>, s: &[u8]) -> bool
+    ensures { Decides result (nth_phrase (french_numbers_of settings) (total number.now.groups) ≡ s.now) }
 {
     let lent = fr::texts();
-    let mut plan = [0u32; PLAN];
-    let k = fr_plan::plan_ordinal(&lent, settings, n, gs, &mut plan);
-    plan::stands(&lent, &plan[..k], s)
+    let plan = fr_plan::plan_ordinal(&lent, settings, number);
+    plan::stands(&lent, plan.codes(), s)
 }
 
-// Any bytes as a cardinal under these settings: what they are by the grammar, with the groups in out.
-pub fn read_cardinal(settings: Settings, s: &[u8], out: &mut [u16; ORDERS]) -> Read
-    requires { Within (french_ranges settings) × (length out.old ≡ 34) }
-    ensures { ReadOf (Says (french settings) s.now) result.seen out.new × Groups34 out.new × Highest out.new result.orders }
+// Any bytes as a cardinal under these settings: what they are by the grammar.
+pub fn read_cardinal(settings: French, s: &[u8]) -> Option<Figure<ORDERS>>
+    ensures { ReadOf (Says (french (french_numbers_of settings)) s.now) result }
 {
-    let k = sign(s);
-    let m = guess(&s[k..], out);
-    let n = groups::top(m, out);
-    let zero = n == 0;
-    let stands = is_cardinal(settings, zero, 0 < k, n, out, s);
-    let seen = figures::seen_of(stands, zero, 0 < k);
-    Read { seen, orders: n }
+    let minus = sign(s);
+    let start = minus.unwrap_or(0);
+    let number = guess(&s[start..]);
+    let stands = is_cardinal(settings, minus.is_some(), &number, s);
+    Figure::read(number, minus.is_some(), stands)
 }
 
-// Any bytes as an ordinal, which has no sign, under these settings: what they are by the grammar, with the groups in out.
-pub fn read_ordinal(settings: Settings, s: &[u8], out: &mut [u16; ORDERS]) -> Read
-    requires { Within (french_ranges settings) × (length out.old ≡ 34) }
-    ensures { ReadOf (SaysNth settings s.now) result.seen out.new × Groups34 out.new × Highest out.new result.orders }
+// Any bytes as an ordinal, which has no sign, under these settings: what they are by the grammar.
+pub fn read_ordinal(settings: French, s: &[u8]) -> Option<Figure<ORDERS>>
+    ensures { ReadOf (SaysNth (french_numbers_of settings) s.now) result }
 {
-    let m = guess(s, out);
-    let n = groups::top(m, out);
-    let stands = is_ordinal(settings, n, out, s);
-    let seen = figures::seen_of(stands, n == 0, false);
-    Read { seen, orders: n }
+    let number = guess(s);
+    let stands = is_ordinal(settings, &number, s);
+    Figure::read(number, false, stands)
 }

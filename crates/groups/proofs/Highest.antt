@@ -1,7 +1,7 @@
 -- How many orders hold a number's groups, and what the groups from an order on tell of the number.
 -- Assumes nothing.
 use Prim.Native.Nat.{ℕ, zero, suc, ◌+◌, ◌-◌, ◌*◌, ◌/◌, ◌%◌, ◌^◌, ◌≤◌, ◌<◌}
-use native.Mathlib.Decide.{ℕ_discrete, dec_lt}
+use native.Mathlib.Decide.{dec_lt}
 use native.Mathlib.Nat.{div-eq_of_lt, div-lt_iff_lt-mul, one-le-pow, zero-mod, lt_of_lt_of_le, le_trans, pow-le-pow_right}
 use native.Mathlib.Numerals.{add-one}
 use native.Mathlib.Omega.{arith}
@@ -10,15 +10,16 @@ use mathlib.Core.List.{List, [], ◌∷◌, ◌++◌}
 use mathlib.Core.Path.{◌≡◌, refl, sym, ◌∙◌}
 use borrow.Author.Tests.{eq-eqb, ne_eqb}
 use lib.Dec.{eqb}
-use lib.ListN.{length, get_or, take, drop, replicate, length-append, get_or-eq_default}
+use lib.ListN.{length, get_or, set, take, drop, replicate, length-append, get_or-eq_default}
 use lib.Seq.{drop-cons}
 use Rattle.figures.specs.Groups.{groups_of, total, Groups}
 use Rattle.figures.specs.Text.{plain, value}
 use Rattle.figures.proofs.Laws.Digits.{thousand}
 use Rattle.figures.proofs.Laws.Plain.{plain_digits, plain_least}
 use Rattle.figures.proofs.Laws.Text.{lead_zero}
-use Rattle.figures.proofs.Laws.Groups.{groups_length, groups_at, groups_total, hold, rest_turn}
+use Rattle.figures.proofs.Laws.Groups.{groups_length, groups_at, groups_total, group_of_lem, total_lt, hold, rest_turn}
 use Rattle.groups.specs.Highest.{ZeroFrom, Highest}
+use Rattle.groups.specs.declared.number.Number.{Number}
 
 -- a number below 1000 to the m has m orders
 pub small_zeros : (n m k : ℕ) → n < 1000 ^ m → ZeroFrom (groups_of k n) m
@@ -70,9 +71,6 @@ zeros_all zero i h = refl
 zeros_all (suc k) zero h = refl
 zeros_all (suc k) (suc i) h = zeros_all k i (omega arith)
 
-pub zeros_highest : (k : ℕ) → Highest (replicate k 0) 0
-zeros_highest k = record { fits = omega arith; zeros = zeros_all k; some = λ h. absurd (omega arith) }
-
 pub zeros_then : (gs : List ℕ) (n : ℕ) → ZeroFrom gs n → ZeroFrom (gs ++ (0 ∷ [])) n
 zeros_then gs n z i h = last gs i ∙ z i h
   where
@@ -100,18 +98,6 @@ pub total_take : (gs : List ℕ) (n : ℕ) → ZeroFrom gs n → total (take n g
 total_take gs zero z = sym (total_none gs z)
 total_take [] (suc n) z = refl
 total_take (g ∷ gs) (suc n) z = rw (total_take gs n (λ i h. z (suc i) (omega arith)))
-
--- a search for the top from the end down: the group below is 0 too, and the top is found
-module _ (gs : List ℕ) (n : ℕ) (z : ZeroFrom gs n) where
-  pub zeros_down : get_or gs (n - 1) 0 ≡ 0 → ZeroFrom gs (n - 1)
-  zeros_down e i h = go (ℕ_discrete i (n - 1))
-    where
-      go : Dec (i ≡ n - 1) → get_or gs i 0 ≡ 0
-      go (yes q) = rw q e
-      go (no q) = z i (omega arith)
-
-  pub top_is : n ≤ length gs → (0 < n → get_or gs (n - 1) 0 ≡ 0 → ⊥) → Highest gs n × (0 < n → get_or gs (n - 1) 0 ≡ 0 → ⊥)
-  top_is w s = (record { fits = w; zeros = z; some = λ h. s (omega arith) }, s)
 
 -- of a top as `top` gives it: it is 0 just where the number is
 pub top_zero : (gs : List ℕ) (r : ℕ) → Highest gs r → (0 < r → get_or gs (r - 1) 0 ≡ 0 → ⊥) → eqb r 0 ≡ eqb (total gs) 0
@@ -150,3 +136,35 @@ total_seven gs z =
     let f = total_from gs 5 (omega arith) in
     let h = total_from gs 6 (omega arith) in
     omega arith
+
+-- a number below a thousand is its lowest group
+pub lone : (k g : ℕ) → g < 1000 → 0 < k → Groups (set (replicate k 0) 0 g) × Highest (set (replicate k 0) 0 g) 1 × (total (set (replicate k 0) 0 g) ≡ g)
+lone zero g l h = absurd (omega arith)
+lone (suc k) g l h = (
+  (l, none_below k),
+  record { fits = omega arith; zeros = above; some = λ h. absurd (omega arith) },
+  omega (arith, total_none (replicate k 0) (zeros_all k)),
+)
+  where
+    none_below : (k : ℕ) → Groups (replicate k 0)
+    none_below zero = tt
+    none_below (suc k) = (omega arith, none_below k)
+
+    above : ZeroFrom (set (replicate (suc k) 0) 0 g) 1
+    above zero a = absurd (omega arith)
+    above (suc i) a = zeros_all k i (omega arith)
+
+-- a number of N groups is below 1000 to the N
+pub number_below : {N : ℕ} (x : Number N) → total x.groups < 1000 ^ N
+number_below x = rw (← x.size) (total_lt x.groups x.small)
+
+-- a number below a power of a thousand has no more orders than that
+pub orders_few : (gs : List ℕ) (n k : ℕ) → Groups gs → Highest gs n → 0 < k → total gs < 1000 ^ k → n ≤ k
+orders_few gs n k small top some h = go (dec_lt k n)
+  where
+    go : Dec (k < n) → n ≤ k
+    go (no q) = omega arith
+    go (yes q) =
+        let low : total gs < 1000 ^ (n - 1) = lt_of_lt_of_le h (pow-le-pow_right {n = 1000} (omega arith) {i = k} {j = n - 1} (omega arith)) in
+        let none : get_or gs (n - 1) 0 ≡ 0 = group_of_lem gs (n - 1) small (omega (arith, top.fits)) ∙ rw (div-eq_of_lt low) refl in
+        absurd (top.some (omega arith) none)

@@ -1,3 +1,2 @@
 pub mod Triples
 pub mod Highest
-pub mod Held

@@ -1,1 +1,3 @@
 pub mod Highest
+pub mod Small
+pub mod Read

@@ -1,9 +1,8 @@
 -- The digits of groups, put one after the other.
 -- Assumes nothing.
-use Prim.Native.Nat.{ℕ, zero, suc, ◌+◌, ◌*◌, ◌/◌, ◌%◌, ◌^◌, ◌≤◌, ◌<◌}
-use native.Mathlib.Nat.{div-one}
+use Prim.Native.Nat.{ℕ, zero, suc, ◌+◌, ◌*◌, ◌/◌, ◌%◌, ◌^◌, ◌≤◌}
 use native.Mathlib.Omega.{arith}
-use mathlib.Core.List.{[], ◌∷◌, ◌++◌}
+use mathlib.Core.List.{◌++◌}
 use mathlib.Core.Path.{◌≡◌, refl}
 use Rattle.figures.specs.Written.{fixed}
 use Rattle.figures.proofs.Laws.Digits.{thousand}
@@ -26,18 +25,6 @@ fixed_group (suc (suc (suc zero))) y h =
     let c : y % 1000 / 1 % 10 ≡ y / 1 % 10 = omega arith in
     rw (a, b, c)
 fixed_group (suc (suc (suc (suc k)))) y h = absurd (omega arith)
-
--- the last digits of a group, one by one
-pub one_digit : (x : ℕ) → (48 + x % 10) ∷ [] ≡ fixed 1 x
-one_digit x = rw (div-one x)
-
-pub two_digits : (x : ℕ) → (48 + x / 10 % 10) ∷ (48 + x % 10) ∷ [] ≡ fixed 2 x
-two_digits x = rw (div-one x)
-
-pub three_digits : (x : ℕ) → x < 1000 → (48 + x / 100) ∷ (48 + x / 10 % 10) ∷ (48 + x % 10) ∷ [] ≡ fixed 3 x
-three_digits x h =
-    let a : x / 100 ≡ x / 100 % 10 = omega arith in
-    rw (div-one x, ← a)
 
 -- the text of a group in front of those of the groups below it
 pub fixed_high : (k o n : ℕ) → k ≤ 3 → fixed k (n / 1000 ^ o % 1000) ++ fixed (o * 3) n ≡ fixed (k + o * 3) n

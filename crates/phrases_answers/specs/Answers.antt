@@ -1,22 +1,22 @@
 -- What the program writes to a line (01, "The program phrases"): the form of the line, then the definition of the call that it asks for.
 -- Assumes nothing.
-use Rattle.std.specs.Prelude.{ℕ, ◌+◌, ◌/◌, ◌%◌, cond, List, [], ◌∷◌, ◌++◌, eqb, leb, ltb, length}
+use Rattle.std.specs.Prelude.{ℕ, ◌+◌, ◌/◌, ◌%◌, cond, List, [], ◌∷◌, ◌++◌, eqb, leb, ltb, length, Option as OptionOf, Some, None}
 use Rattle.std.proofs.Math.Option.{Option, none, some}
 use Rattle.base.specs.Answer.{Spelling}
 use Rattle.base.specs.Join.{Word}
 use Rattle.base.specs.Signs.{line_feed, digit_zero}
 use Rattle.base.specs.Utf8.{utf8}
 use Rattle.settings.specs.Settings.{letter_apostrophe, ported_style, ukrainian_settings, french_settings, ukrainian_ranges, french_ranges, within}
-use Rattle.settings.specs.declared.Settings.{Settings}
+use Rattle.settings.specs.Settings.{Settings}
 use Rattle.uk_calls.specs.UkCardinals.{uk_to_cardinal}
 use Rattle.uk_ordinal_calls.specs.UkOrdinals.{uk_to_ordinal, uk_to_ordinal_num, year_text}
 use Rattle.uk_money_calls.specs.MoneyCalls.{uk_to_currency}
 use Rattle.fr_calls.specs.FrCalls.{fr_to_cardinal, fr_to_ordinal}
 use Rattle.phrases_forms.specs.Line.{words_of, kind_of, language_of, gender_of, grammatical_number_of, case_of, feminine_of, reformed_of, region_of, text_form, code_form}
 use Rattle.phrases_forms.specs.declared.Kind.{Kind}
-use Rattle.phrases_forms.specs.declared.Kind.TheVariants.{Card, Ord, Num, Year, Money, Other}
+use Rattle.phrases_forms.specs.declared.Kind.TheVariants.{Card, Ord, Num, Year, Money}
 use Rattle.phrases_forms.specs.declared.Language.{Language}
-use Rattle.phrases_forms.specs.declared.Language.TheVariants.{Ukrainian, French, Neither}
+use Rattle.phrases_forms.specs.declared.Language.TheVariants.{Ukrainian, French}
 
 -- the number text of a number below 100: a refusal's
 abbrev pub numeral : ℕ → List ℕ
@@ -42,7 +42,6 @@ ukrainian_form Ord S ws = text_form (uk_to_ordinal S) ws
 ukrainian_form Num S ws = text_form (uk_to_ordinal_num S) ws
 ukrainian_form Year S ws = text_form (year_text S) ws
 ukrainian_form Money S ws = code_form (uk_to_currency S) ws
-ukrainian_form Other S ws = none
 
 -- of a French one: "French has card and ord"
 unfoldable pub french_form : Kind → Settings → List Word → Option Spelling
@@ -51,7 +50,6 @@ french_form Ord S ws = text_form (fr_to_ordinal S) ws
 french_form Num S ws = none
 french_form Year S ws = none
 french_form Money S ws = none
-french_form Other S ws = none
 
 -- the settings of a Ukrainian line, which names three of them: of apostrophes and of ordinal styles, "The program's lines mean 0" (02, W2 and W3)
 abbrev pub line_settings : ℕ → ℕ → ℕ → Settings
@@ -65,10 +63,11 @@ abbrev pub french_named : Word → Word → Word → Settings
 french_named a b c = french_settings (feminine_of a) (reformed_of b) (region_of c)
 
 -- a form of a language and a kind with three words of settings and the last words
-unfoldable pub settled : Language → Kind → Word → Word → Word → List Word → Option Spelling
-settled Ukrainian k a b c ws = cond (within (ukrainian_ranges (ukrainian_named a b c))) (ukrainian_form k (ukrainian_named a b c) ws) none
-settled French k a b c ws = cond (within (french_ranges (french_named a b c))) (french_form k (french_named a b c) ws) none
-settled Neither k a b c ws = none
+unfoldable pub settled : OptionOf Language → OptionOf Kind → Word → Word → Word → List Word → Option Spelling
+settled (Some Ukrainian) (Some k) a b c ws = cond (within (ukrainian_ranges (ukrainian_named a b c))) (ukrainian_form k (ukrainian_named a b c) ws) none
+settled (Some French) (Some k) a b c ws = cond (within (french_ranges (french_named a b c))) (french_form k (french_named a b c) ws) none
+settled (Some l) None a b c ws = none
+settled None k a b c ws = none
 
 -- what the words of a line ask for: kind, language, three settings, and the rest
 unfoldable pub form : List Word → Option Spelling

@@ -1,19 +1,19 @@
 -- What the bytes that are left of a line ask for, as the code goes through it from the front. No answer is defined by it.
 -- Assumes nothing.
-use Rattle.std.specs.Prelude.{ℕ, cond, List}
+use Rattle.std.specs.Prelude.{ℕ, cond, List, Option as OptionOf, Some, None}
 use Rattle.std.proofs.Math.Option.{Option, none}
 use Rattle.base.specs.Answer.{Spelling}
 use Rattle.settings.specs.Settings.{ukrainian_ranges, french_ranges, within}
-use Rattle.settings.specs.declared.Settings.{Settings}
+use Rattle.settings.specs.Settings.{Settings}
 use Rattle.uk_calls.specs.UkCardinals.{uk_to_cardinal}
 use Rattle.uk_ordinal_calls.specs.UkOrdinals.{uk_to_ordinal, uk_to_ordinal_num, year_text}
 use Rattle.uk_money_calls.specs.MoneyCalls.{uk_to_currency}
 use Rattle.fr_calls.specs.FrCalls.{fr_to_cardinal, fr_to_ordinal}
 use Rattle.phrases_forms.specs.Cuts.{next_word, after_space, text_left, code_left}
 use Rattle.phrases_forms.specs.declared.Kind.{Kind}
-use Rattle.phrases_forms.specs.declared.Kind.TheVariants.{Card, Ord, Num, Year, Money, Other}
+use Rattle.phrases_forms.specs.declared.Kind.TheVariants.{Card, Ord, Num, Year, Money}
 use Rattle.phrases_forms.specs.declared.Language.{Language}
-use Rattle.phrases_forms.specs.declared.Language.TheVariants.{Ukrainian, French, Neither}
+use Rattle.phrases_forms.specs.declared.Language.TheVariants.{Ukrainian, French}
 use Rattle.phrases_answers.specs.Answers.{ukrainian_named, french_named}
 
 -- what is left of a Ukrainian form of each kind
@@ -23,7 +23,6 @@ ukrainian_left Ord S s = text_left (uk_to_ordinal S) s
 ukrainian_left Num S s = text_left (uk_to_ordinal_num S) s
 ukrainian_left Year S s = text_left (year_text S) s
 ukrainian_left Money S s = code_left (uk_to_currency S) (next_word s) (after_space s)
-ukrainian_left Other S s = none
 
 -- of a French one
 unfoldable pub french_left : Kind → Settings → List ℕ → Option Spelling
@@ -32,7 +31,6 @@ french_left Ord S s = text_left (fr_to_ordinal S) s
 french_left Num S s = none
 french_left Year S s = none
 french_left Money S s = none
-french_left Other S s = none
 
 -- the settings that the next three words name
 abbrev pub ukrainian_next : List ℕ → Settings
@@ -49,4 +47,9 @@ after_three s = after_space (after_space (after_space s))
 unfoldable pub settled_left : Kind → Language → List ℕ → Option Spelling
 settled_left k Ukrainian s = cond (within (ukrainian_ranges (ukrainian_next s))) (ukrainian_left k (ukrainian_next s) (after_three s)) none
 settled_left k French s = cond (within (french_ranges (french_next s))) (french_left k (french_next s) (after_three s)) none
-settled_left k Neither s = none
+
+-- kind and language are known, if they are any
+unfoldable pub known_left : OptionOf Kind → OptionOf Language → List ℕ → Option Spelling
+known_left (Some k) (Some l) s = settled_left k l s
+known_left (Some k) None s = none
+known_left None l s = none

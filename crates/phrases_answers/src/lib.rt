@@ -7,25 +7,27 @@ mod write;
 ghost use Rattle.std.specs.Prelude.{◌≡◌, ◌≤◌, length};
 ghost use Rattle.base.specs.Buffer.{over};
 ghost use Rattle.base.specs.Room.{line_room};
-ghost use Rattle.phrases_answers.specs.Answers.{answer_to, answer_line};
-ghost use Rattle.phrases_answers.specs.Left.{settled_left};
-ghost use Rattle.phrases_answers.specs.Wrote.{Wrote};
+ghost use Rattle.phrases_forms.specs.Line.{words_of};
+ghost use Rattle.phrases_answers.specs.Answers.{form, answer_line};
+ghost use Rattle.phrases_answers.specs.Asked.{Asked};
 
-use phrases_forms::{Kind, Language};
-use write::bad;
+use base::Refusal;
+use phrases_forms::{Language, cut, names};
+use write::{bad, finish};
 
 // The bytes of the longest line that has an answer but `bad line`.
 pub const LONGEST_LINE: usize = 512;
 
-// A form of which the settings and what follows them are left.
-fn settle(kind: Kind, language: Language, s: &[u8], out: &mut [u8]) -> usize
-    requires { line_room ≤ length out.old }
-    ensures { Wrote (answer_to (settled_left kind language s.now)) result out.old out.new }
+// What the call that a line asks for is told, with its phrase over the front of out; nothing where the line is no form.
+fn ask(s: &[u8], out: &mut [u8]) -> Option<Result<usize, Refusal>>
+    ensures { Asked (form (words_of s.now)) result out.old out.new }
 {
-    match language {
-        Language::Ukrainian => ukrainian::settle(kind, s, out),
-        Language::French => french::settle(kind, s, out),
-        Language::Neither => bad(out),
+    let (word, rest) = cut(s);
+    let kind = names::kind_of(word)?;
+    let (word, rest) = cut(rest);
+    match names::language_of(word)? {
+        Language::Ukrainian => ukrainian::ask(kind, rest, out),
+        Language::French => french::ask(kind, rest, out),
     }
 }
 
@@ -38,14 +40,8 @@ pub fn answer_line(s: &[u8], out: &mut [u8]) -> usize
     if LONGEST_LINE < s.len() {
         return bad(out);
     }
-    let k = phrases_forms::cut(s);
-    let i = k.end;
-    let p = k.next;
-    let kind = phrases_forms::names::kind_of(&s[..i]);
-    let t = &s[p..];
-    let l = phrases_forms::cut(t);
-    let j = l.end;
-    let q = l.next;
-    let language = phrases_forms::names::language_of(&t[..j]);
-    settle(kind, language, &t[q..], out)
+    match ask(s, out) {
+        Some(told) => finish(told, out),
+        None => bad(out),
+    }
 }

@@ -1,58 +1,39 @@
 #![tactic(auto)]
 // Standard input answered on standard output, block by block.
-ghost use Rattle.std.specs.Prelude.{◌≡◌, true, ◌≤◌, length, take};
+ghost use Rattle.std.specs.Prelude.{◌≤◌, length};
 ghost use Rattle.base.specs.Room.{line_room};
-ghost use Rattle.phrases_lines.specs.Held.{is_line};
 
-use phrases_lines::HELD;
+use phrases_lines::Line;
 use std::io;
 use std::io::{Read, Stdin, Stdout, Write};
 
 // How many bytes are read at a time, and how many of the answers are written at a time: so many that the calls cost little beside the answers.
 const BLOCK: usize = 65536;
 
-// Feeds one block, and writes what comes of it as often as out is full. Of a line whose end has not come in, held bytes are held, also where a write fails.
-fn pass(
-    block: &[u8],
-    line: &mut [u8],
-    held: &mut usize,
-    out: &mut [u8],
-    output: &mut Stdout,
-) -> io::Result<()>
-    requires { (held.old ≤ 513) × (length line.old ≡ 513) × (is_line (take held.old line.old) ≡ true) × (line_room ≤ length out.old) }
-    ensures { (held.new ≤ 513) × (is_line (take held.new line.new) ≡ true) }
+// Feeds one block, and writes what comes of it as often as out is full.
+fn pass(block: &[u8], line: &mut Line, out: &mut [u8], output: &mut Stdout) -> io::Result<()>
+    requires { line_room ≤ length out.old }
 {
-    let mut at = 0;
-    while at < block.len() {
-        let f = phrases_lines::feed(&block[at..], line, *held, out);
-        let used = f.used;
-        let more = f.at;
-        *held = f.held;
-        output.write_all(&out[..used])?;
-        at += more;
+    let mut rest = block;
+    while !rest.is_empty() {
+        let fed = phrases_lines::feed(rest, line, out);
+        output.write_all(&out[..fed.used])?;
+        rest = &rest[fed.at..];
     }
     Ok(())
 }
 
 // Reads and passes on until the input ends. A proved loop has to end, so it counts its turns.
-fn passes(
-    input: &mut Stdin,
-    line: &mut [u8],
-    held: &mut usize,
-    out: &mut [u8],
-    output: &mut Stdout,
-) -> io::Result<()>
-    requires { (length line.old ≡ 513) × (line_room ≤ length out.old) }
-    ensures { (held.new ≤ 513) × (is_line (take held.new line.new) ≡ true) }
+fn passes(input: &mut Stdin, line: &mut Line, out: &mut [u8], output: &mut Stdout) -> io::Result<()>
+    requires { line_room ≤ length out.old }
 {
     let mut block = [0u8; BLOCK];
-    *held = 0;
     for _ in 0..u64::MAX {
         let n = input.read(&mut block)?;
         if n == 0 {
             break;
         }
-        pass(&block[..n], line, held, out, output)?;
+        pass(&block[..n], line, out, output)?;
     }
     Ok(())
 }
@@ -61,10 +42,9 @@ fn passes(
 pub fn answer_input(rt: &HostRuntime) -> io::Result<()> {
     let mut input = rt.stdin();
     let mut output = rt.stdout();
-    let mut line = [0u8; HELD];
-    let mut held = 0;
+    let mut line = Line::new();
     let mut out = [0u8; BLOCK];
-    passes(&mut input, &mut line, &mut held, &mut out, &mut output)?;
-    let used = phrases_lines::last(&line[..held], &mut out);
+    passes(&mut input, &mut line, &mut out, &mut output)?;
+    let used = phrases_lines::last(line.bytes(), &mut out);
     output.write_all(&out[..used])
 }

@@ -1,13 +1,14 @@
 -- The words of a line, and the line cut word by word from the front: one word, or a word and what is behind its space.
 -- Assumes nothing.
-use Prim.Native.Nat.{ℕ, suc, ◌-◌}
-use mathlib.Core.Path.{◌≡◌, refl}
+use Prim.Native.Nat.{ℕ, suc, ◌+◌, ◌-◌}
+use mathlib.Core.Path.{◌≡◌, refl, ◌∙◌}
 use mathlib.Core.Bool.{Bool, true, false, cond, not, ◌&&◌}
 use mathlib.Core.List.{List, [], ◌∷◌}
 use native.Mathlib.Omega.{arith}
 use borrow.Author.Tests.{eqb-true}
 use lib.Dec.{eqb}
-use lib.ListN.{length, get_or, take}
+use lib.ListN.{length, get_or, take, drop}
+use Rattle.std.specs.List.{position_or_len}
 use mathlib.Core.Option.{Option, none, some}
 use Rattle.base.specs.Answer.{Spelling}
 use Rattle.base.specs.Join.{Word}
@@ -24,15 +25,42 @@ pub data Cut (s : List ℕ) : Type 0 where
   one : words_of s ≡ next_word s ∷ [] → next_word s ≡ s → after_space s ≡ [] → Cut s
   more : words_of s ≡ next_word s ∷ words_of (after_space s) → Spaced s → Cut s
 
-pub cut : (s : List ℕ) → Cut s
+-- a byte before the first space
+take_on : (n b : ℕ) (s : List ℕ) → take (1 + n) (b ∷ s) ≡ b ∷ take n s
+take_on n b s = let k : 1 + n ≡ suc n = omega arith in rw k refl
+
+drop_on : (n b : ℕ) (s : List ℕ) → drop ((1 + n) + 1) (b ∷ s) ≡ drop (n + 1) s
+drop_on n b s = let k : (1 + n) + 1 ≡ suc (n + 1) = omega arith in rw k refl
+
+next_on : (b : ℕ) (s : List ℕ) → eqb b 32 ≡ false → next_word (b ∷ s) ≡ b ∷ next_word s
+unfolding next_word
+next_on b s e = rw e (take_on (position_or_len (λ c. eqb c 32) s) b s)
+
+after_on : (b : ℕ) (s : List ℕ) → eqb b 32 ≡ false → after_space (b ∷ s) ≡ after_space s
+unfolding after_space
+after_on b s e = rw e (drop_on (position_or_len (λ c. eqb c 32) s) b s)
+
+words_on : (b : ℕ) (s : List ℕ) (w : Word) (ws : List Word) → eqb b 32 ≡ false → words_of s ≡ w ∷ ws → words_of (b ∷ s) ≡ (b ∷ w) ∷ ws
+unfolding divided
+words_on b s w ws e f = rw (e, f) refl
+
+-- a line that begins with a space
+space_first : (b : ℕ) (s : List ℕ) → eqb b 32 ≡ true → Cut (b ∷ s)
 unfolding divided next_word after_space
-cut [] = one refl refl refl
+space_first b s e = more (rw e refl) (here (eqb-true b 32 e))
+
+nothing : Cut []
+unfolding divided next_word after_space
+nothing = one refl refl refl
+
+pub cut : (s : List ℕ) → Cut s
+cut [] = nothing
 cut (b ∷ s) = go (eqb b 32) refl (cut s)
   where
     go : (t : Bool) → eqb b 32 ≡ t → Cut s → Cut (b ∷ s)
-    go true e c = more (rw e refl) (here (eqb-true b 32 e))
-    go false e (one w f a) = one (rw (e, w) refl) (rw (e, f) refl) (rw (e, a) refl)
-    go false e (more w h) = more (rw (e, w) refl) (there h)
+    go true e c = space_first b s e
+    go false e (one w f a) = one (words_on b s (next_word s) [] e w ∙ rw (next_on b s e) refl) (rw (next_on b s e, f) refl) (rw (after_on b s e) a)
+    go false e (more w h) = more (words_on b s (next_word s) (words_of (after_space s)) e w ∙ rw (next_on b s e, after_on b s e) refl) (there h)
 
 -- no text with its bracket has a space in it
 shut : List ℕ → Bool

@@ -1,6 +1,6 @@
 -- The form of a line (01, "The program phrases"): words divided by single spaces, the names of kinds, languages and settings, and texts.
 -- Assumes nothing.
-use Rattle.std.specs.Prelude.{ℕ, suc, ◌-◌, Bool, true, cond, not, ◌&&◌, List, [], ◌∷◌, eqb, length, get_or, take}
+use Rattle.std.specs.Prelude.{ℕ, suc, ◌-◌, Bool, true, cond, not, ◌&&◌, List, [], ◌∷◌, eqb, length, get_or, take, Option as OptionOf, Some, None}
 use Prim.Native.String.{String}
 use Rattle.std.proofs.Math.Option.{Option, none, some}
 use Rattle.base.specs.Answer.{Spelling}
@@ -10,9 +10,9 @@ use Rattle.base.specs.Signs.{space, opening_bracket, closing_bracket}
 use Rattle.base.specs.Utf8.{utf8}
 use Rattle.base.specs.Same.{same_text}
 use Rattle.phrases_forms.specs.declared.Kind.{Kind}
-use Rattle.phrases_forms.specs.declared.Kind.TheVariants.{Card, Ord, Num, Year, Money, Other}
+use Rattle.phrases_forms.specs.declared.Kind.TheVariants.{Card, Ord, Num, Year, Money}
 use Rattle.phrases_forms.specs.declared.Language.{Language}
-use Rattle.phrases_forms.specs.declared.Language.TheVariants.{Ukrainian, French, Neither}
+use Rattle.phrases_forms.specs.declared.Language.TheVariants.{Ukrainian, French}
 
 -- the words of a line ("Single spaces"); brackets belong to the words that they open or close
 abbrev pub words_of : List ℕ → List Word
@@ -24,17 +24,17 @@ name_place [] w = 0
 name_place (n ∷ ns) w = cond (same_text (utf8 n) w) 0 (suc (name_place ns w))
 
 -- "Kinds: card, ord, num, year, money", with the bracket that opens the form
-unfoldable pub kind_of : Word → Kind
+unfoldable pub kind_of : Word → OptionOf Kind
 kind_of w =
-    cond (same_text (utf8 "(card") w) Card
-    (cond (same_text (utf8 "(ord") w) Ord
-    (cond (same_text (utf8 "(num") w) Num
-    (cond (same_text (utf8 "(year") w) Year
-    (cond (same_text (utf8 "(money") w) Money Other))))
+    cond (same_text (utf8 "(card") w) (Some Card)
+    (cond (same_text (utf8 "(ord") w) (Some Ord)
+    (cond (same_text (utf8 "(num") w) (Some Num)
+    (cond (same_text (utf8 "(year") w) (Some Year)
+    (cond (same_text (utf8 "(money") w) (Some Money) None))))
 
 -- the language, with the bracket that opens the settings
-unfoldable pub language_of : Word → Language
-language_of w = cond (same_text (utf8 "(uk") w) Ukrainian (cond (same_text (utf8 "(fr") w) French Neither)
+unfoldable pub language_of : Word → OptionOf Language
+language_of w = cond (same_text (utf8 "(uk") w) (Some Ukrainian) (cond (same_text (utf8 "(fr") w) (Some French) None)
 
 -- "`(uk m sing nom)` with m f n, sing plur, nom gen dat acc ins loc": 01's setting numbers, out of range for any other word; the gender
 unfoldable pub gender_of : Word → ℕ

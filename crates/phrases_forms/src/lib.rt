@@ -4,7 +4,7 @@ pub mod names;
 pub mod runs;
 pub mod settings;
 
-ghost use Rattle.std.specs.Prelude.{◌≡◌, ◌≤◌, length, take, drop};
+ghost use Rattle.std.specs.Prelude.{◌≡◌};
 ghost use Rattle.phrases_forms.specs.Cuts.{next_word, after_space};
 
 // What is asked of a figure.
@@ -15,7 +15,6 @@ pub enum Kind {
     Num,
     Year,
     Money,
-    Other,
 }
 
 // The language whose settings follow.
@@ -23,26 +22,14 @@ pub enum Kind {
 pub enum Language {
     Ukrainian,
     French,
-    Neither,
 }
 
-// Where a line's first word ends, and where what is behind its space starts.
-#[derive(Clone, Copy)]
-pub struct Bounds {
-    pub end: usize,
-    pub next: usize,
-}
-
-// The first word of a line.
-pub fn cut(s: &[u8]) -> Bounds
-    ensures s_value { (take result.end s.now ≡ next_word s.now) × (drop result.next s.now ≡ after_space s.now) }
-    ensures end_in_bounds { (result.end ≤ length s.now) × (result.next ≤ length s.now) }
+// The first word of a line, and what is behind its space.
+pub fn cut(s: &[u8]) -> (&[u8], &[u8])
+    ensures { (result.0.now ≡ next_word s.now) × (result.1.now ≡ after_space s.now) }
 {
-    for (end, b) in s.iter().enumerate() {
-        if *b == b' ' {
-            return Bounds { end, next: end + 1 };
-        }
+    match s.iter().position(|b| *b == b' ') {
+        Some(end) => (&s[..end], &s[end + 1..]),
+        None => (s, &[]),
     }
-    let n = s.len();
-    Bounds { end: n, next: n }
 }

@@ -1,71 +1,57 @@
--- Laws of one byte, in the code's terms: a line's end, a byte that joins the line, one of a line that is too long; and one byte more of a block.
+-- Laws of one byte: a line's end, a byte that joins the line, one of a line that is too long; and one byte more of a block.
 -- Assumes nothing.
 use Prim.Native.Nat.{ℕ, ◌+◌, ◌-◌, ◌≤◌, ◌<◌}
-use native.Mathlib.Omega.{arith}
 use native.Mathlib.Numerals.{add-one}
-use mathlib.Core.Path.{◌≡◌, sym, ap, ◌∙◌}
-use mathlib.Core.Bool.{true}
+use mathlib.Core.Path.{◌≡◌, refl, sym, ap, ◌∙◌}
+use mathlib.Core.Bool.{Bool, true, false, cond}
+use borrow.Author.Tests.{ltb-false}
+use lib.Dec.{ltb}
 use mathlib.Core.List.{List, [], ◌∷◌, ◌++◌, append_assoc}
-use lib.ListN.{length, get_or, take, drop, set, length-append, take-append-drop, drop_of_length-le}
-use lib.Seq.{take-suc, take-suc-set, take_at, drop_at, take-take, length-take-le}
+use lib.ListN.{length, get_or, take, drop, set}
+use lib.Seq.{take-suc, take-suc-set, take_at, take-append-add, length-take-le}
+use Rattle.std.proofs.lemmas.List.{take-append-le}
 use borrow.Rule.Slice.PartMut.{put_mid}
 use Rattle.base.specs.Buffer.{over}
 use Rattle.phrases_answers.specs.Answers.{answer_line}
 use Rattle.phrases_lines.specs.Program.{program, Answered}
 use Rattle.phrases_lines.specs.Held.{is_line}
-use Rattle.phrases_lines.proofs.Lines.{line_ends, goes_on}
+use Rattle.phrases_lines.proofs.Lines.{line_ends, goes_on, line_on}
 
--- the buffer xs with t written after its first u bytes
-abbrev pub written : List ℕ → List ℕ → ℕ → List ℕ
-written xs t u = put_mid u (length xs - u) xs (over (take (length xs - u) (drop u xs)) t)
+-- a line's end, with the line so far as s
+pub ended : (p s : List ℕ) → s ≡ p → is_line s ≡ true → (b : ℕ) → b ≡ 10 → (out out' q : List ℕ) (r : ℕ) → (r ≡ length (answer_line s)) × (out' ≡ over out (answer_line s)) → q ≡ []
+    → Answered p (b ∷ []) (take r out') q
+ended p s d l b e out out' q r (f, g) h rest =
+    let a : List ℕ = answer_line s in
+    let t : take r out' ≡ a = rw (f, g) (take_at a (drop (length a) out) (length a) refl) in
+    rw (← d, e, t, h) (line_ends s rest l)
 
--- its first u bytes are as before, and behind them stands t
-module _ (xs t : List ℕ) (u : ℕ) (h : u + length t ≤ length xs) where
-  front : take (u + length t) (written xs t u) ≡ take u xs ++ t
-  front =
-      let r : List ℕ = drop (length t) (take (length xs - u) (drop u xs)) in
-      let e : List ℕ = drop (length xs - u) (drop u xs) in
-      let a : take u xs ++ ((t ++ r) ++ e) ≡ (take u xs ++ t) ++ (r ++ e) = simp append_assoc in
-      let l : length (take u xs ++ t) ≡ u + length t = length-append (take u xs) t ∙ ap (λ (k : ℕ). k + length t) (length-take-le u xs (omega arith)) in
-      rw a (take_at (take u xs ++ t) (r ++ e) (u + length t) l)
-
-  pub kept_before : take u (written xs t u) ≡ take u xs
-  kept_before =
-      sym (take-take u (u + length t) (written xs t u) (omega arith)) ∙ ap (take u) front ∙ take_at (take u xs) t u (length-take-le u xs (omega arith))
-
-  pub told_behind : drop u (take (u + length t) (written xs t u)) ≡ t
-  told_behind = ap (drop u) front ∙ drop_at (take u xs) t u (length-take-le u xs (omega arith))
-
--- the line so far, and a byte
-module _ (p : List ℕ) (b : ℕ) (l : is_line p ≡ true) where
-  pub ended : (w : List ℕ) → b ≡ 10 → w ≡ answer_line p → Answered p (b ∷ []) w []
-  ended w e f rest = rw (e, f) (line_ends p rest l)
-
-  pub lengthened : (w q : List ℕ) → w ≡ [] → q ≡ p ++ (b ∷ []) → Answered p (b ∷ []) w q
-  lengthened w q e f rest = rw (e, f) (ap program (sym (append_assoc p (b ∷ []) rest)))
-
-  pub too_much : (w : List ℕ) → (b ≡ 10 → ⊥) → 513 ≤ length p → w ≡ [] → Answered p (b ∷ []) w p
-  too_much w z h e rest = rw e (goes_on p b rest l z h)
-
--- nothing stands between u and u
-pub nothing : (xs : List ℕ) (u : ℕ) → u ≤ length xs → drop u (take u xs) ≡ []
-nothing xs u h =
-    let l = length-take-le u xs h in
-    drop_of_length-le (take u xs) {i = u} (omega (arith, l))
+-- a byte that joins the line, or one of a line that is too long
+pub grown : (p : List ℕ) (b : ℕ) → is_line p ≡ true → (b ≡ 10 → ⊥) → (q : List ℕ) → q ≡ cond (ltb (length p) 513) (p ++ (b ∷ [])) p → Answered p (b ∷ []) [] q
+grown p b l z q e = go (ltb (length p) 513) refl e
+  where
+    go : (t : Bool) → ltb (length p) 513 ≡ t → q ≡ cond t (p ++ (b ∷ [])) p → Answered p (b ∷ []) [] q
+    go true u f rest = rw f (ap program (sym (append_assoc p (b ∷ []) rest)))
+    go false u f rest = rw f (goes_on p b rest l z (ltb-false (length p) 513 u))
 
 -- a byte set behind the first n of a line
 pub pushed : (line : List ℕ) (n b : ℕ) → n < length line → take (n + 1) (set line n b) ≡ take n line ++ (b ∷ [])
 pushed line n b h = rw add-one (take-suc-set line n b h)
 
--- one byte more of a block: u bytes of out were written for those before it, and v of out' with it
-pub one_more_lem : (p block out out' q q' : List ℕ) (i u v : ℕ) → i < length block → u ≤ v → take u out' ≡ take u out
-    → Answered p (take i block) (take u out) q → Answered q (get_or block i 0 ∷ []) (drop u (take v out')) q'
-    → Answered p (take (i + 1) block) (take v out') q'
-one_more_lem p block out out' q q' i u v h l k a b rest =
+pub joined : (line : List ℕ) (n b : ℕ) → n < length line → is_line (take n line) ≡ true → (b ≡ 10 → ⊥) → is_line (take (n + 1) (set line n b)) ≡ true
+joined line n b h l z = rw (pushed line n b h) (line_on (take n line) b l z)
+
+-- what a call wrote to a part of a buffer stands behind its first u bytes
+written : (xs ys : List ℕ) (u n r : ℕ) → u ≤ length xs → r ≤ length ys → take (u + r) (put_mid u n xs ys) ≡ take u xs ++ take r ys
+written xs ys u n r h k =
+    ap (λ (m : ℕ). take (m + r) (put_mid u n xs ys)) (sym (length-take-le u xs h)) ∙ take-append-add (take u xs) (ys ++ drop n (drop u xs)) r
+    ∙ ap (λ (l : List ℕ). take u xs ++ l) (take-append-le r ys (drop n (drop u xs)) k)
+
+-- one byte more of a block: u bytes of out were written for those before it, and r with it
+pub one_more_lem : (p block out ys q q' : List ℕ) (i u n r : ℕ) → i < length block → u ≤ length out → r ≤ length ys
+    → Answered p (take i block) (take u out) q → Answered q (get_or block i 0 ∷ []) (take r ys) q'
+    → Answered p (take (i + 1) block) (take (u + r) (put_mid u n out ys)) q'
+one_more_lem p block out ys q q' i u n r h k l a b rest =
     let x : ℕ = get_or block i 0 in
-    let w : List ℕ = drop u (take v out') in
     let e : take (i + 1) block ++ rest ≡ take i block ++ (x ∷ rest) = rw (add-one, take-suc block i 0 h) (append_assoc (take i block) (x ∷ []) rest) in
-    let f : take u out ++ w ≡ take v out' =
-    ap (λ (m : List ℕ). m ++ w) (sym k ∙ sym (take-take u v out' l)) ∙ take-append-drop u (take v out') in
     ap (λ (m : List ℕ). program (p ++ m)) e ∙ a (x ∷ rest) ∙ ap (λ (m : List ℕ). take u out ++ m) (b rest)
-    ∙ sym (append_assoc (take u out) w (program (q' ++ rest))) ∙ ap (λ (m : List ℕ). m ++ program (q' ++ rest)) f
+    ∙ sym (append_assoc (take u out) (take r ys) (program (q' ++ rest))) ∙ ap (λ (m : List ℕ). m ++ program (q' ++ rest)) (sym (written out ys u n r k l))

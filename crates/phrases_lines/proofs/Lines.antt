@@ -8,6 +8,7 @@ use native.Mathlib.Omega.{arith}
 use borrow.Author.Tests.{ne_eqb, lt-leb}
 use lib.Dec.{eqb}
 use lib.ListN.{length, length-append}
+use Rattle.std.proofs.lemmas.Grind.{common_steps}
 use Rattle.tables.proofs.Tests.{clash_of as clash}
 use Rattle.base.specs.Divide.{to_first, divided}
 use Rattle.phrases_answers.specs.Answers.{answer_line, bad_line}
@@ -104,3 +105,6 @@ no_line (b ∷ p) e = absurd (omega arith)
 pub one_line : (p : List ℕ) → is_line p ≡ true → (length p ≡ 0 → ⊥) → program p ≡ answer_line p
 one_line [] e z = absurd (z refl)
 one_line (b ∷ p) e z = alone (b ∷ p) e
+
+-- what the tactics know of a line alone
+pub ruleset alone_laws = (common_steps, no_line, one_line)

@@ -3,18 +3,24 @@
 use Prim.Native.Nat.{ℕ, zero, suc, ◌+◌, ◌*◌, ◌/◌, ◌%◌, ◌<◌, ◌≤◌}
 use mathlib.Core.Path.{◌≡◌, refl, ap₂}
 use mathlib.Core.List.{List, [], ◌∷◌}
+use mathlib.Core.Bool.{true}
 use native.Mathlib.Omega.{arith}
-use lib.ListN.{length, get_or, take, drop}
+use borrow.Author.Tests.{ltb-true}
+use lib.Dec.{ltb}
+use lib.ListN.{take, drop}
 use lib.Seq.{take-take}
+use Rattle.std.specs.List.{list_all}
+use Rattle.tables.proofs.Tests.{both_hold}
 use Rattle.words.specs.Part.{part}
 use Rattle.plan.specs.Phrase.{Piece}
 use Rattle.plan.specs.Plan.{piece_of, pieces, Below}
 
--- one more number
-pub below_more : (limit : ℕ) (xs : List ℕ) (i : ℕ) → i < length xs → get_or xs i 0 / 256 < limit → Below limit (take i xs) → Below limit (take (suc i) xs)
-below_more limit [] i h l b = absurd (omega arith)
-below_more limit (x ∷ xs) zero h l b = (l, tt)
-below_more limit (x ∷ xs) (suc i) h l b = (b.0, below_more limit xs i (omega arith) l b.1)
+-- where each place passes the test, all are below the limit
+pub all_below : (limit : ℕ) (xs : List ℕ) → list_all (λ c. ltb (c / 256) limit) xs ≡ true → Below limit xs
+all_below limit [] e = tt
+all_below limit (x ∷ xs) e =
+    let b = both_hold (ltb (x / 256) limit) (list_all (λ c. ltb (c / 256) limit) xs) e in
+    (ltb-true (x / 256) limit b.0, all_below limit xs b.1)
 
 -- what lies in the first k
 within : (a b k : ℕ) (xs : List ℕ) → a + b ≤ k → take b (drop a (take k xs)) ≡ take b (drop a xs)

@@ -1,16 +1,17 @@
 -- Laws of plans and phrases: a plan's first number and the part after it; bytes written over bytes.
 -- Assumes nothing.
-use Prim.Native.Nat.{ℕ, zero, suc, ◌+◌, ◌-◌, ◌*◌, ◌/◌, ◌%◌, ◌<◌, ◌≤◌}
+use Prim.Native.Nat.{ℕ, zero, suc, ◌+◌, ◌-◌, ◌/◌, ◌%◌, ◌<◌, ◌≤◌}
 use mathlib.Core.Path.{◌≡◌, refl, sym, ap, ◌∙◌}
 use mathlib.Core.List.{List, [], ◌∷◌, ◌++◌, append-nil, append_assoc, map-append}
 use native.Mathlib.Omega.{arith}
 use native.Mathlib.Numerals.{add-one}
 use lib.ListN.{length, get_or, take, drop, set, length-append, length-drop, drop_of_length-le}
-use lib.Seq.{take_all, take-suc, split_at, take-suc-set, take-append_seam, drop-append_seam, drop-drop}
+use lib.Seq.{take_all, take-suc, split_at, take-append_seam, drop-append_seam, drop-drop}
+use Rattle.std.proofs.lemmas.Grind.{common_steps}
 use Rattle.base.specs.Buffer.{over}
 use Rattle.words.specs.Part.{part}
 use Rattle.plan.specs.Phrase.{Piece, gap, following, phrase_of}
-use Rattle.plan.specs.Plan.{piece_of, pieces, says, Added}
+use Rattle.plan.specs.Plan.{piece_of, pieces}
 
 -- what the code lends as `&s[k..]`
 abbrev pub from : ℕ → List ℕ → List ℕ
@@ -34,9 +35,10 @@ pub wrote : (k : ℕ) (xs a b ys zs : List ℕ) → k ≡ length a → ys ≡ ov
 wrote k xs a b ys zs l e f =
     rw (back_is, f, l, e, from_is (length a) (over xs a), take-append_seam a, drop-append_seam a, drop-drop, length-append, append_assoc) refl
 
-pub set_first : (xs : List ℕ) (v : ℕ) → 1 ≤ length xs → set xs 0 v ≡ over xs (v ∷ [])
-set_first [] v h = absurd (omega arith)
-set_first (x ∷ xs) v h = refl
+-- a byte stored first, and then b written over the part after it
+pub stored : (s : ℕ) (xs b ys : List ℕ) → length (s ∷ b) ≤ length xs → ys ≡ over (from 1 (set xs 0 s)) b → back 1 (set xs 0 s) ys ≡ over xs (s ∷ b)
+stored s [] b ys h e = absurd (omega arith)
+stored s (x ∷ xs) b ys h e = wrote 1 (x ∷ xs) (s ∷ []) b (s ∷ xs) ys refl refl e
 
 -- pieces behind pieces
 pub following_append : (ps qs : List Piece) → following (ps ++ qs) ≡ following ps ++ following qs
@@ -46,43 +48,18 @@ following_append (p ∷ ps) qs = rw (following_append ps qs) (sym (append_assoc 
 
 -- of plans whose texts are parts of this pool
 module _ (pool : List ℕ) where
-  -- a number stored at the end of what is written
-  pub pushed : (xs : List ℕ) (n s i : ℕ) → n < length xs → s < 256 → Added pool 1 xs n (set xs n (i * 256 + s)) (n + 1) ((s, part pool i) ∷ [])
-  unfolding says pieces piece_of
-  pushed xs n s i h k = record {
-    near = omega arith;
-    more =
-        let p : (i * 256 + s) % 256 ≡ s = omega arith in
-        let q : (i * 256 + s) / 256 ≡ i = omega arith in
-        rw (add-one n, take-suc-set xs n (i * 256 + s), map-append, p, q) refl;
-  }
-
-  pub none : (xs : List ℕ) → length xs ≡ 0 → (following (pieces pool xs) ≡ []) × (phrase_of (pieces pool xs) ≡ [])
-  unfolding following phrase_of pieces
-  none [] h = (refl, refl)
+  -- no piece says nothing
+  pub none : (xs : List ℕ) → length xs < 1 → phrase_of (pieces pool xs) ≡ []
+  unfolding phrase_of pieces
+  none [] h = refl
   none (x ∷ xs) h = absurd (omega arith)
 
   -- the first piece, and the part after it
-  pub first_following : (xs : List ℕ) → (length xs ≡ 0 → ⊥)
-      → following (pieces pool xs) ≡ following (piece_of pool (get_or xs 0 0) ∷ []) ++ following (pieces pool (from 1 xs))
-  unfolding following pieces
-  first_following [] h = absurd (h refl)
-  first_following (x ∷ xs) h = rw (from_is 1 (x ∷ xs), append-nil) refl
-
-  pub first_phrase : (xs : List ℕ) → (length xs ≡ 0 → ⊥)
+  pub first_phrase : (xs : List ℕ) → 1 ≤ length xs
       → phrase_of (pieces pool xs) ≡ part pool (get_or xs 0 0 / 256) ++ following (pieces pool (from 1 xs))
   unfolding phrase_of pieces piece_of
-  first_phrase [] h = absurd (h refl)
+  first_phrase [] h = absurd (omega arith)
   first_phrase (x ∷ xs) h = rw (from_is 1 (x ∷ xs)) refl
-
-  -- room for all is room for the first and for the part after it
-  pub room_following : (xs : List ℕ) (n : ℕ) → (length xs ≡ 0 → ⊥) → length (following (pieces pool xs)) ≤ n
-      → length (following (piece_of pool (get_or xs 0 0) ∷ [])) + length (following (pieces pool (from 1 xs))) ≤ n
-  room_following xs n h k = rw (first_following xs h, length-append) at k
-
-  pub room_phrase : (xs : List ℕ) (n : ℕ) → (length xs ≡ 0 → ⊥) → length (phrase_of (pieces pool xs)) ≤ n
-      → length (part pool (get_or xs 0 0 / 256)) + length (following (pieces pool (from 1 xs))) ≤ n
-  room_phrase xs n h k = rw (first_phrase xs h, length-append) at k
 
   -- a piece with its separator
   pub bare : (c : ℕ) → c % 256 ≡ 0 → following (piece_of pool c ∷ []) ≡ part pool (c / 256)
@@ -120,3 +97,10 @@ module _ (pool : List ℕ) where
       ap (λ l. following (pieces pool l)) (split_at xs i 0 h) ∙ rw map-append (following_append (pieces pool (take i xs)) (p ∷ pieces pool (drop (suc i) xs)))
       ∙ ap (λ l. upto i xs ++ l) (following_append (p ∷ []) (pieces pool (drop (suc i) xs))) in
       rw (e, length-append, length-append) (omega arith)
+
+-- what the tactics know of one piece, of the pieces up to a place, and of a phrase's first piece
+pub ruleset piece_laws = (common_steps, bare, spaced, stored)
+
+pub ruleset turn_laws = (common_steps, next, next_room, upto_all, upto_none)
+
+pub ruleset first_laws = (common_steps, none, first_phrase)

@@ -1,48 +1,70 @@
 -- Laws of comparing a text with pieces: it stands exactly where it is what the pieces say.
 -- Assumes nothing.
-use Prim.Native.Nat.{ℕ, zero, suc, ◌+◌, ◌-◌, ◌/◌, ◌%◌, ◌<◌, ◌≤◌}
+use Prim.Native.Nat.{ℕ, suc, ◌+◌, ◌/◌, ◌<◌, ◌≤◌}
 use mathlib.Core.Path.{◌≡◌, refl, sym, ap, ◌∙◌}
 use mathlib.Core.Bool.{Bool, true, false, cond}
 use mathlib.Core.List.{List, [], ◌∷◌, ◌++◌, append-nil}
 use native.Mathlib.Omega.{arith}
-use lib.Dec.{eqb, eqb-suc-suc}
 use native.Mathlib.Numerals.{add-one}
-use lib.ListN.{length, get_or, drop, length-append, length-drop, drop_of_length-le}
-use lib.Seq.{drop-append_seam, drop-cons, drop-drop}
 use borrow.Author.Tests.{eq-eqb, ne_eqb}
+use lib.Dec.{eqb}
+use lib.ListN.{length, get_or, drop, length-append, drop_of_length-le}
+use lib.Seq.{drop-append_seam, drop-cons}
+use Rattle.std.proofs.Common.{Some, None}
+use Rattle.std.proofs.lemmas.Grind.{common_steps}
 use Rattle.tables.proofs.Tests.{clash_of as clash}
 use Rattle.base.specs.Decides.{Decides}
-use Rattle.words.specs.Part.{part}
 use Rattle.base.specs.Front.{begins, passed}
 use Rattle.base.proofs.Fronts.{begins_is, begins_own, passed_true, passed_false}
+use Rattle.words.specs.Part.{part}
 use Rattle.plan.specs.Phrase.{Piece, gap, following, phrase_of}
 use Rattle.plan.specs.Plan.{piece_of, pieces}
 use Rattle.plan.specs.Stands.{is_nil, stands}
-use Rattle.plan.proofs.Laws.{from, from_is, none, first_phrase, bare, spaced}
+use Rattle.plan.proofs.Laws.{from, from_is, none, first_phrase, piece_laws}
 
 -- a front that is passed, or not
-pub passed_some : (w s : List ℕ) (n : ℕ) → n ≡ passed w s → (n ≡ 0 → ⊥) → (begins w s ≡ true) × (n ≡ suc (length w))
+pub passed_some : (w s : List ℕ) (n : ℕ) → passed w s ≡ Some n → (begins w s ≡ true) × (n ≡ length w)
 unfolding passed
-passed_some w s n e z = go (begins w s) refl e
+passed_some w s n e = go (begins w s) refl e
   where
-    go : (t : Bool) → begins w s ≡ t → n ≡ cond t (suc (length w)) 0 → (t ≡ true) × (n ≡ suc (length w))
-    go true q f = (refl, f)
-    go false q f = absurd (z f)
+    go : (t : Bool) → begins w s ≡ t → cond t (Some (length w)) None ≡ Some n → (t ≡ true) × (n ≡ length w)
+    go true q f = (refl, cc)
+    go false q f = cc
 
-pub passed_none : (w s : List ℕ) (n : ℕ) → n ≡ passed w s → n ≡ 0 → begins w s ≡ false
+pub passed_none : (w s : List ℕ) → passed w s ≡ None → begins w s ≡ false
 unfolding passed
-passed_none w s n e z = go (begins w s) (sym z ∙ e)
+passed_none w s e = go (begins w s) e
   where
-    go : (t : Bool) → 0 ≡ cond t (suc (length w)) 0 → t ≡ false
-    go true f = absurd (omega arith)
+    go : (t : Bool) → cond t (Some (length w)) None ≡ None → t ≡ false
+    go true f = cc
     go false f = refl
 
-pub begins_within : (w s : List ℕ) → begins w s ≡ true → length w ≤ length s
-begins_within w s e = omega (arith, ap length (begins_is w s e), length-append w (drop (length w) s))
-
 -- what was passed lies within the text
-pub passed_within : (w s : List ℕ) (n : ℕ) → n ≡ passed w s → (n ≡ 0 → ⊥) → n - 1 ≤ length s
-passed_within w s n e z = let p = passed_some w s n e z in omega (arith, p.1, begins_within w s p.0)
+pub passed_within : (w s : List ℕ) (n : ℕ) → passed w s ≡ Some n → n ≤ length s
+passed_within w s n e =
+    let p = passed_some w s n e in
+    omega (arith, p.1, ap length (begins_is w s p.0), length-append w (drop (length w) s))
+
+-- a front that is longer by a byte
+pub longer_none : (a : ℕ) (w s : List ℕ) → length s < 1 → passed (a ∷ w) s ≡ None
+longer_none a w [] h = passed_false (a ∷ w) [] refl
+longer_none a w (b ∷ s) h = absurd (omega arith)
+
+pub longer_other : (a : ℕ) (w s : List ℕ) → 1 ≤ length s → (get_or s 0 0 ≡ a → ⊥) → passed (a ∷ w) s ≡ None
+longer_other a w [] h n = absurd (omega arith)
+longer_other a w (b ∷ s) h n = passed_false (a ∷ w) (b ∷ s) (rw (ne_eqb a b (λ e. n (sym e))) refl)
+
+pub longer_same : (a : ℕ) (w s : List ℕ) → 1 ≤ length s → get_or s 0 0 ≡ a → begins (a ∷ w) s ≡ begins w (from 1 s)
+longer_same a w [] h e = absurd (omega arith)
+longer_same a w (b ∷ s) h e = rw (eq-eqb a b (sym e), from_is 1 (b ∷ s)) refl
+
+pub longer_not : (a : ℕ) (w s : List ℕ) → 1 ≤ length s → get_or s 0 0 ≡ a → passed w (from 1 s) ≡ None → passed (a ∷ w) s ≡ None
+longer_not a w s h e f = passed_false (a ∷ w) s (longer_same a w s h e ∙ passed_none w (from 1 s) f)
+
+pub longer_on : (a : ℕ) (w s : List ℕ) (n : ℕ) → 1 ≤ length s → get_or s 0 0 ≡ a → passed w (from 1 s) ≡ Some n → passed (a ∷ w) s ≡ Some (n + 1)
+longer_on a w s n h e f =
+    let p = passed_some w (from 1 s) n f in
+    passed_true (a ∷ w) s (longer_same a w s h e ∙ p.0) ∙ rw (p.1, add-one) refl
 
 -- the same text behind the same front
 pub cancel : (w s t : List ℕ) → w ++ s ≡ w ++ t → s ≡ t
@@ -74,103 +96,59 @@ stands_own (p ∷ ps) =
 -- of plans whose texts are parts of this pool
 module _ (pool : List ℕ) where
   -- no pieces are left
-  pub stands_end : (xs s : List ℕ) (i k : ℕ) → length xs ≤ i → k ≤ length s → eqb k (length s) ≡ stands (pieces pool (drop i xs)) (drop k s)
+  pub stands_end : (xs s : List ℕ) (i : ℕ) → length xs ≤ i → stands (pieces pool (drop i xs)) s ≡ eqb (length s) 0
   unfolding stands pieces
-  stands_end xs s i k h l = rw (drop_of_length-le xs {i = i} h) (go s k l)
+  stands_end xs s i h = rw (drop_of_length-le xs {i = i} h) (go s)
     where
-      go : (t : List ℕ) (m : ℕ) → m ≤ length t → eqb m (length t) ≡ is_nil (drop m t)
-      go [] zero l = refl
-      go [] (suc m) l = absurd (omega arith)
-      go (b ∷ t) zero l = ne_eqb 0 (length (b ∷ t)) (λ e. omega arith)
-      go (b ∷ t) (suc m) l = eqb-suc-suc m (length t) ∙ go t m (omega arith)
+      go : (t : List ℕ) → is_nil t ≡ eqb (length t) 0
+      go [] = refl
+      go (b ∷ t) = sym (ne_eqb (length (b ∷ t)) 0 (λ e. omega arith))
 
   -- the piece at i, and those after it
-  module _ (xs s : List ℕ) (i k : ℕ) (h : i < length xs) (n : ℕ) (e : n ≡ passed (following (piece_of pool (get_or xs i 0) ∷ [])) (from k s)) where
-    here : stands (pieces pool (drop i xs)) (drop k s)
-        ≡ cond (begins (following (piece_of pool (get_or xs i 0) ∷ [])) (drop k s)) (stands (pieces pool (drop (suc i) xs)) (drop (length (following (piece_of pool (get_or xs i 0) ∷ []))) (drop k s))) false
-    unfolding stands pieces following
-    here = rw (drop-cons xs i 0 h, append-nil) refl
+  here : (xs s : List ℕ) (i : ℕ) → i < length xs → stands (pieces pool (drop i xs)) s
+      ≡ cond (begins (following (piece_of pool (get_or xs i 0) ∷ [])) s) (stands (pieces pool (drop (suc i) xs)) (drop (length (following (piece_of pool (get_or xs i 0) ∷ []))) s)) false
+  unfolding stands pieces following
+  here xs s i h = rw (drop-cons xs i 0 h, append-nil) refl
 
-    known : n ≡ passed (following (piece_of pool (get_or xs i 0) ∷ [])) (drop k s)
-    known = rw (from_is k s) at e
+  pub stands_not : (xs s : List ℕ) (i : ℕ) → i < length xs → passed (following (piece_of pool (get_or xs i 0) ∷ [])) s ≡ None → stands (pieces pool (drop i xs)) s ≡ false
+  stands_not xs s i h e = rw (here xs s i h, passed_none (following (piece_of pool (get_or xs i 0) ∷ [])) s e) refl
 
-    pub stands_not : n ≡ 0 → false ≡ stands (pieces pool (drop i xs)) (drop k s)
-    stands_not z = rw (here, passed_none (following (piece_of pool (get_or xs i 0) ∷ [])) (drop k s) n known z) refl
+  pub stands_on : (xs s : List ℕ) (i n : ℕ) → i < length xs → passed (following (piece_of pool (get_or xs i 0) ∷ [])) s ≡ Some n
+      → stands (pieces pool (drop (i + 1) xs)) (from n s) ≡ stands (pieces pool (drop i xs)) s
+  stands_on xs s i n h e =
+      let p = passed_some (following (piece_of pool (get_or xs i 0) ∷ [])) s n e in
+      sym (here xs s i h ∙ rw (p.0, add-one i, from_is n s, p.1) refl)
 
-    pub stands_on : (n ≡ 0 → ⊥) → stands (pieces pool (drop i xs)) (drop k s) ≡ stands (pieces pool (drop (i + 1) xs)) (drop (k + (n - 1)) s)
-    stands_on z =
-        let p = passed_some (following (piece_of pool (get_or xs i 0) ∷ [])) (drop k s) n known z in
-        let m : n - 1 ≡ length (following (piece_of pool (get_or xs i 0) ∷ [])) = omega (arith, p.1) in
-        here ∙ rw (p.0, m, add-one i, drop-drop) refl
+  -- no word, and a first word that the text does not begin with, or begins with
+  pub none_is : (xs s : List ℕ) → length xs < 1 → Decides (eqb (length s) 0) (phrase_of (pieces pool xs) ≡ s)
+  none_is xs [] h = record { holds = λ q. none pool xs h; fails = λ q. clash (sym q) }
+  none_is xs (b ∷ s) h = record { holds = λ q. clash (sym (ne_eqb (length (b ∷ s)) 0 (λ e. omega arith)) ∙ q); fails = λ q f. let g : [] ≡ b ∷ s = sym (none pool xs h) ∙ f in absurd (omega (arith, ap length g)) }
 
-    pub stands_within : (n ≡ 0 → ⊥) → k ≤ length s → k + (n - 1) ≤ length s
-    stands_within z l = omega (arith, passed_within (following (piece_of pool (get_or xs i 0) ∷ [])) (drop k s) n known z, length-drop k s)
-
-  -- the first word, and the pieces after it
-  module _ (xs s : List ℕ) (h : length xs ≡ 0 → ⊥) where
-    -- the first word of a phrase, and the part after it
-    module _ (n : ℕ) (e : n ≡ passed (part pool (get_or xs 0 0 / 256)) s) where
-      pub first_not : n ≡ 0 → Decides false (phrase_of (pieces pool xs) ≡ s)
-      first_not z = record {
-        holds = λ q. clash q;
-        fails = λ q f.
-            let w = part pool (get_or xs 0 0 / 256) in
-            let r = following (pieces pool (from 1 xs)) in
-            let g : w ++ r ≡ s = sym (first_phrase pool xs h) ∙ f in
-            clash (sym (passed_none w s n e z) ∙ ap (begins w) (sym g) ∙ begins_own w r);
-      }
-
-      pub first_on : (n ≡ 0 → ⊥) → (b : Bool) → b ≡ stands (pieces pool (from 1 xs)) (from (n - 1) s) → Decides b (phrase_of (pieces pool xs) ≡ s)
-      first_on z b f =
+  module _ (xs s : List ℕ) (h : 1 ≤ length xs) where
+    pub first_not : passed (part pool (get_or xs 0 0 / 256)) s ≡ None → Decides false (phrase_of (pieces pool xs) ≡ s)
+    first_not e = record {
+      holds = λ q. clash q;
+      fails = λ q f.
           let w = part pool (get_or xs 0 0 / 256) in
           let r = following (pieces pool (from 1 xs)) in
-          let p = passed_some w s n e z in
-          let m : n - 1 ≡ length w = omega (arith, p.1) in
-          let d : b ≡ stands (pieces pool (from 1 xs)) (drop (length w) s) = f ∙ rw (from_is (n - 1) s, m) refl in
-          record {
-            holds = λ q. first_phrase pool xs h ∙ ap (λ (l : List ℕ). w ++ l) (stands_is (pieces pool (from 1 xs)) (drop (length w) s) (sym d ∙ q)) ∙ begins_is w s p.0;
-            fails = λ q g.
-                let m : r ≡ drop (length w) s = cancel w r (drop (length w) s) (sym (first_phrase pool xs h) ∙ g ∙ sym (begins_is w s p.0)) in
-                clash (sym q ∙ d ∙ ap (stands (pieces pool (from 1 xs))) (sym m) ∙ stands_own (pieces pool (from 1 xs)));
-          }
+          let g : w ++ r ≡ s = sym (first_phrase pool xs h) ∙ f in
+          clash (sym (passed_none w s e) ∙ ap (begins w) (sym g) ∙ begins_own w r);
+    }
 
-  pub none_is : (xs s : List ℕ) → length xs ≡ 0 → Decides (eqb (length s) 0) (phrase_of (pieces pool xs) ≡ s)
-  none_is xs [] h = record { holds = λ q. (none pool xs h).1; fails = λ q. clash (sym q) }
-  none_is xs (b ∷ s) h = record { holds = λ q. clash (sym (ne_eqb (length (b ∷ s)) 0 (λ e. omega arith)) ∙ q); fails = λ q f. let g : [] ≡ b ∷ s = sym (none pool xs h).1 ∙ f in absurd (omega (arith, ap length g)) }
+    pub first_on : (n : ℕ) (b : Bool) → passed (part pool (get_or xs 0 0 / 256)) s ≡ Some n → b ≡ stands (pieces pool (from 1 xs)) (from n s) → Decides b (phrase_of (pieces pool xs) ≡ s)
+    first_on n b e f =
+        let w = part pool (get_or xs 0 0 / 256) in
+        let r = following (pieces pool (from 1 xs)) in
+        let p = passed_some w s n e in
+        let d : b ≡ stands (pieces pool (from 1 xs)) (drop (length w) s) = f ∙ rw (from_is n s, p.1) refl in
+        record {
+          holds = λ q. first_phrase pool xs h ∙ ap (λ (l : List ℕ). w ++ l) (stands_is (pieces pool (from 1 xs)) (drop (length w) s) (sym d ∙ q)) ∙ begins_is w s p.0;
+          fails = λ q g.
+              let m : r ≡ drop (length w) s = cancel w r (drop (length w) s) (sym (first_phrase pool xs h) ∙ g ∙ sym (begins_is w s p.0)) in
+              clash (sym q ∙ d ∙ ap (stands (pieces pool (from 1 xs))) (sym m) ∙ stands_own (pieces pool (from 1 xs)));
+        }
 
-  -- a piece with a separator, at the front of a text
-  module _ (c : ℕ) (s : List ℕ) where
-    pub pass_bare : c % 256 ≡ 0 → (n : ℕ) → n ≡ passed (part pool (c / 256)) s → n ≡ passed (following (piece_of pool c ∷ [])) s
-    pass_bare h n e = rw (bare pool c h) e
+-- what the tactics know of a piece that is passed, and of those after it
+pub ruleset pass_laws = (piece_laws, longer_none, longer_other, longer_not, longer_on)
 
-    module _ (h : c % 256 ≡ 0 → ⊥) where
-      pub pass_end : length s ≡ 0 → 0 ≡ passed (following (piece_of pool c ∷ [])) s
-      pass_end z = rw (spaced pool c h) (sym (passed_false ((c % 256) ∷ part pool (c / 256)) s (go s z)))
-        where
-          go : (t : List ℕ) → length t ≡ 0 → begins ((c % 256) ∷ part pool (c / 256)) t ≡ false
-          go [] z = refl
-          go (b ∷ t) z = absurd (omega arith)
-
-      pub pass_other : (length s ≡ 0 → ⊥) → (get_or s 0 0 ≡ c % 256 → ⊥) → 0 ≡ passed (following (piece_of pool c ∷ [])) s
-      pass_other z n = rw (spaced pool c h) (sym (passed_false ((c % 256) ∷ part pool (c / 256)) s (go s z n)))
-        where
-          go : (t : List ℕ) → (length t ≡ 0 → ⊥) → (get_or t 0 0 ≡ c % 256 → ⊥) → begins ((c % 256) ∷ part pool (c / 256)) t ≡ false
-          go [] z n = absurd (z refl)
-          go (b ∷ t) z n = rw (ne_eqb (c % 256) b (λ e. n (sym e))) refl
-
-      module _ (z : length s ≡ 0 → ⊥) (q : get_or s 0 0 ≡ c % 256) (n : ℕ) (e : n ≡ passed (part pool (c / 256)) (from 1 s)) where
-        same_front : begins ((c % 256) ∷ part pool (c / 256)) s ≡ begins (part pool (c / 256)) (from 1 s)
-        same_front = go s z q
-          where
-            go : (t : List ℕ) → (length t ≡ 0 → ⊥) → get_or t 0 0 ≡ c % 256 → begins ((c % 256) ∷ part pool (c / 256)) t ≡ begins (part pool (c / 256)) (from 1 t)
-            go [] z q = absurd (z refl)
-            go (b ∷ t) z q = rw (eq-eqb (c % 256) b (sym q), from_is 1 (b ∷ t)) refl
-
-        pub pass_not : n ≡ 0 → 0 ≡ passed (following (piece_of pool c ∷ [])) s
-        pass_not y = rw (spaced pool c h) (sym (passed_false ((c % 256) ∷ part pool (c / 256)) s (same_front ∙ passed_none (part pool (c / 256)) (from 1 s) n e y)))
-
-        pub pass_on : (n ≡ 0 → ⊥) → n + 1 ≡ passed (following (piece_of pool c ∷ [])) s
-        pass_on y =
-            let p = passed_some (part pool (c / 256)) (from 1 s) n e y in
-            let g : n + 1 ≡ suc (suc (length (part pool (c / 256)))) = omega (arith, p.1) in
-            g ∙ rw (spaced pool c h) (sym (passed_true ((c % 256) ∷ part pool (c / 256)) s (same_front ∙ p.0)))
+pub ruleset stand_laws = (common_steps, stands_not, stands_on, stands_end, passed_within)

@@ -11,8 +11,8 @@ pub data Speaks : List Piece → List Word → Type 0 where
   whole : (w : Word) {ps : List Piece} {ws : List Word} → Speaks ps ws → Speaks (word w ∷ ps) (w ∷ ws)
   ended : (w e : Word) {ps : List Piece} {ws : List Word} → Speaks ps ws → Speaks (word w ∷ on e ∷ ps) ((w ++ e) ∷ ws)
 
--- the plan xs of which n are written has become ys with r written, by at most k more, which say the words ws
-pub record Told (pool : List ℕ) (k : ℕ) (xs : List ℕ) (n : ℕ) (ys : List ℕ) (r : ℕ) (ws : List Word) : Type 0 where
+-- the plan xs has become ys by at most k pieces more, which say the words ws
+pub record Told (pool : List ℕ) (k : ℕ) (xs ys : List ℕ) (ws : List Word) : Type 0 where
   pub pieces : List Piece
-  pub added : Added pool k xs n ys r pieces
+  pub added : Added pool k xs ys pieces
   pub speaks : Speaks pieces ws

@@ -2,51 +2,34 @@
 // Plans: a phrase is planned piece by piece, then measured, written, or compared with a text. Every kind of phrase goes through these functions; the
 // texts of its pieces are parts of a pool, which the caller lends.
 pub mod measure; // measure.rt: the figures of a phrase
+mod pieces; // pieces.rt: the plan that is being written
 
-ghost use Rattle.std.specs.Prelude.{◌≡◌, ℕ, ◌+◌, ◌*◌, ◌≤◌, ◌<◌, true, List, [], ◌∷◌, length, take};
+ghost use Rattle.std.specs.Prelude.{◌≡◌, ◌*◌, ◌≤◌, true, [], ◌∷◌, length};
 ghost use Rattle.base.specs.Buffer.{over};
 ghost use Rattle.base.specs.Answer.{fitted, Answers};
+ghost use Rattle.base.specs.Refused.{answer_of};
 ghost use Rattle.base.specs.Decides.{Decides};
-ghost use Rattle.words.specs.Part.{part};
 ghost use Rattle.base.specs.Front.{passed};
 ghost use Rattle.base.specs.Room.{longest_piece};
 ghost use Rattle.plan.specs.Phrase.{following, phrase_of};
-ghost use Rattle.plan.specs.Plan.{piece_of, pieces, says, Below, Added};
+ghost use Rattle.plan.specs.Plan.{piece_of, pieces, Below};
 ghost use Rattle.plan.specs.Stands.{stands as stands_as};
 
-use base::{Answer, NO_ROOM};
-
-// A plan's number is a place times this, and a separator.
-pub const SEPARATORS: u32 = 256;
+use base::Refusal;
+pub use pieces::{ON, Plan, SEPARATORS, SPACE};
 
 // What no piece is longer than, with its separator: `longest_piece`.
 const LONGEST: usize = 40;
 
-// Adds a piece to a plan of which `at` are written; returns how many are written then.
-pub fn push(plan: &mut [u32], at: usize, separator: u8, place: u16) -> usize
-    requires { at < length plan.old }
-    ensures { (pool : List ℕ) → Added pool 1 plan.old at plan.new result ((separator, part pool place) ∷ []) }
+// Whether the pieces of a plan have their places below a limit.
+pub fn below(plan: &[u32], limit: u32) -> bool
+    ensures { result ≡ true → Below limit plan.now }
 {
-    plan[at] = (place as u32) * SEPARATORS + (separator as u32);
-    at + 1
-}
-
-// Whether the first n pieces of a plan have their places below a limit.
-pub fn below(plan: &[u32], n: usize, limit: u32) -> bool
-    requires { n ≤ length plan.now }
-    ensures { result ≡ true → Below limit (take n plan.now) }
-{
-    let mut i: usize = 0;
-    while i < n {
-        if limit <= plan[i] / SEPARATORS {
-            return false;
-        }
-        i = i + 1;
-    }
-    true
+    plan.iter().all(|code| code / SEPARATORS < limit)
 }
 
 // The length of a piece with its separator.
+#[tactic(auto, using(crate::proofs::Laws::piece_laws))]
 fn piece_len(pool: &[u8], code: u32) -> usize
     ensures { (result ≡ length (following (piece_of pool.now code ∷ []))) × (result ≤ longest_piece) }
 {
@@ -55,33 +38,32 @@ fn piece_len(pool: &[u8], code: u32) -> usize
 }
 
 // The length of pieces that follow others.
+#[tactic(auto, using(crate::proofs::Laws::turn_laws))]
 fn following_len(pool: &[u8], plan: &[u32]) -> usize
     requires { length plan.now ≤ 1000 }
     ensures { (result ≡ length (following (pieces pool.now plan.now))) × (result ≤ longest_piece * length plan.now) }
 {
     let mut n: usize = 0;
-    let mut i: usize = 0;
-    while i < plan.len() {
-        let m = piece_len(pool, plan[i]);
-        n = n + m;
-        i = i + 1;
+    for &code in plan {
+        n += piece_len(pool, code);
     }
     n
 }
 
 // The length of a phrase.
+#[tactic(auto, using(crate::proofs::Laws::first_laws))]
 fn len(pool: &[u8], plan: &[u32]) -> usize
     requires { length plan.now ≤ 1000 }
     ensures { (result ≡ length (phrase_of (pieces pool.now plan.now))) × (result ≤ longest_piece * length plan.now) }
 {
-    if plan.len() == 0 {
-        return 0;
+    match plan {
+        [] => 0,
+        [first, others @ ..] => words::len(pool, first / SEPARATORS) + following_len(pool, others),
     }
-    let n = words::len(pool, plan[0] / SEPARATORS);
-    n + following_len(pool, &plan[1..])
 }
 
 // Writes a piece with its separator over the front of out.
+#[tactic(auto, using(crate::proofs::Laws::piece_laws))]
 fn put_piece(pool: &[u8], code: u32, out: &mut [u8]) -> usize
     requires { length (following (piece_of pool.now code ∷ [])) ≤ length out.old }
     ensures { (result ≡ length (following (piece_of pool.now code ∷ []))) × (out.new ≡ over out.old (following (piece_of pool.now code ∷ []))) }
@@ -96,113 +78,105 @@ fn put_piece(pool: &[u8], code: u32, out: &mut [u8]) -> usize
 }
 
 // Writes pieces that follow others; each hands on what is left of out.
+#[tactic(auto, using(crate::proofs::Laws::turn_laws))]
 fn put_following(pool: &[u8], plan: &[u32], out: &mut [u8]) -> usize
     requires { length (following (pieces pool.now plan.now)) ≤ length out.old }
     ensures { (result ≡ length (following (pieces pool.now plan.now))) × (out.new ≡ over out.old (following (pieces pool.now plan.now))) }
 {
     let mut k: usize = 0;
-    let mut i: usize = 0;
-    while i < plan.len() {
-        let n = put_piece(pool, plan[i], &mut out[k..]);
-        k = k + n;
-        i = i + 1;
+    for &code in plan {
+        k += put_piece(pool, code, &mut out[k..]);
     }
     k
 }
 
 // Writes a phrase over the front of out.
+#[tactic(auto, using(crate::proofs::Laws::first_laws))]
 fn put(pool: &[u8], plan: &[u32], out: &mut [u8]) -> usize
     requires { length (phrase_of (pieces pool.now plan.now)) ≤ length out.old }
     ensures { (result ≡ length (phrase_of (pieces pool.now plan.now))) × (out.new ≡ over out.old (phrase_of (pieces pool.now plan.now))) }
 {
-    if plan.len() == 0 {
-        return 0;
+    match plan {
+        [] => 0,
+        [first, others @ ..] => {
+            let k = words::put(pool, first / SEPARATORS, out);
+            let n = put_following(pool, others, &mut out[k..]);
+            k + n
+        }
     }
-    let k = words::put(pool, plan[0] / SEPARATORS, out);
-    let n = put_following(pool, &plan[1..], &mut out[k..]);
-    k + n
 }
 
-// Answers with what the first n pieces of a plan say: measured first, and written where out holds it.
-fn speak_measured(pool: &[u8], plan: &[u32], n: usize, out: &mut [u8]) -> Answer
-    requires { (n ≤ length plan.now) × (n ≤ 1000) }
-    ensures answers { Answers result out.old out.new (fitted out.old (phrase_of (says pool.now plan.now n))) }
-    ensures length_bound { result.length ≤ longest_piece * n }
+// Writes what a plan says, where out holds it, and tells its length: measured first.
+fn speak_measured(pool: &[u8], plan: &[u32], out: &mut [u8]) -> Result<usize, Refusal>
+    requires { length plan.now ≤ 1000 }
+    ensures answers { Answers (answer_of result) out.old out.new (fitted out.old (phrase_of (pieces pool.now plan.now))) }
+    ensures length_bound { (answer_of result).length ≤ longest_piece * length plan.now }
 {
-    let size = len(pool, &plan[..n]);
+    let size = len(pool, plan);
     if out.len() < size {
-        return Answer {
-            number: NO_ROOM,
-            length: size,
-        };
+        return Err(Refusal::NoRoom(size));
     }
-    put(pool, &plan[..n], out);
-    Answer {
-        number: 0,
-        length: size,
-    }
+    put(pool, plan, out);
+    Ok(size)
 }
 
-// Answers with what the first n pieces of a plan say. No piece with its separator is longer than LONGEST, so the phrase is measured only where out
-// might not hold it.
-pub fn speak(pool: &[u8], plan: &[u32], n: usize, out: &mut [u8]) -> Answer
-    requires { (n ≤ length plan.now) × (n ≤ 1000) }
-    ensures answers { Answers result out.old out.new (fitted out.old (phrase_of (says pool.now plan.now n))) }
-    ensures length_bound { result.length ≤ longest_piece * n }
+// Writes what a plan says, where out holds it, and tells its length. No piece with its separator is longer than LONGEST, so the phrase is measured only
+// where out might not hold it.
+#[tactic(auto, using(crate::proofs::Short::pieces_short))]
+pub fn speak(pool: &[u8], plan: &[u32], out: &mut [u8]) -> Result<usize, Refusal>
+    requires { length plan.now ≤ 1000 }
+    ensures answers { Answers (answer_of result) out.old out.new (fitted out.old (phrase_of (pieces pool.now plan.now))) }
+    ensures length_bound { (answer_of result).length ≤ longest_piece * length plan.now }
 {
-    if out.len() < LONGEST * n {
-        return speak_measured(pool, plan, n, out);
+    if out.len() < LONGEST * plan.len() {
+        return speak_measured(pool, plan, out);
     }
-    let length = put(pool, &plan[..n], out);
-    Answer { number: 0, length }
+    Ok(put(pool, plan, out))
 }
 
-// One more than the length of a piece with its separator, where s begins with them; else 0.
-fn pass_piece(pool: &[u8], code: u32, s: &[u8]) -> usize
+// The length of a piece with its separator, where s begins with them.
+#[tactic(auto, using(crate::proofs::Standing::pass_laws))]
+fn pass_piece(pool: &[u8], code: u32, s: &[u8]) -> Option<usize>
     ensures { result ≡ passed (following (piece_of pool.now code ∷ [])) s.now }
 {
     let separator = code % SEPARATORS;
     if separator == 0 {
         return words::pass(pool, code / SEPARATORS, s);
     }
-    if s.len() == 0 {
-        return 0;
+    match s {
+        [first, others @ ..] if u32::from(*first) == separator => {
+            let n = words::pass(pool, code / SEPARATORS, others)?;
+            Some(n + 1)
+        }
+        _ => None,
     }
-    if s[0] as u32 != separator {
-        return 0;
-    }
-    let n = words::pass(pool, code / SEPARATORS, &s[1..]);
-    if n == 0 { 0 } else { n + 1 }
 }
 
 // Whether s is made of these pieces, which follow others; each turn hands on the part of s after the pieces before it.
+#[tactic(auto, using(crate::proofs::Standing::stand_laws))]
 fn stand_following(pool: &[u8], plan: &[u32], s: &[u8]) -> bool
     ensures { result ≡ stands_as (pieces pool.now plan.now) s.now }
 {
-    let mut k: usize = 0;
-    let mut i: usize = 0;
-    while i < plan.len() {
-        let n = pass_piece(pool, plan[i], &s[k..]);
-        if n == 0 {
+    let mut rest = s;
+    for &code in plan {
+        let Some(n) = pass_piece(pool, code, rest) else {
             return false;
-        }
-        k = k + (n - 1);
-        i = i + 1;
+        };
+        rest = &rest[n..];
     }
-    k == s.len()
+    rest.is_empty()
 }
 
 // Whether s is the phrase of a plan.
+#[tactic(auto, using(crate::proofs::Standing::stand_laws))]
 pub fn stands(pool: &[u8], plan: &[u32], s: &[u8]) -> bool
     ensures { Decides result (phrase_of (pieces pool.now plan.now) ≡ s.now) }
 {
-    if plan.len() == 0 {
-        return s.len() == 0;
+    match plan {
+        [] => s.is_empty(),
+        [first, others @ ..] => match words::pass(pool, first / SEPARATORS, s) {
+            Some(n) => stand_following(pool, others, &s[n..]),
+            None => false,
+        },
     }
-    let n = words::pass(pool, plan[0] / SEPARATORS, s);
-    if n == 0 {
-        return false;
-    }
-    let k = n - 1;
-    stand_following(pool, &plan[1..], &s[k..])
 }

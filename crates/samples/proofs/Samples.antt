@@ -1,11 +1,11 @@
 -- 01's samples hold, and its errors of habit are errors: each line is computed from the written rules.
 -- Assumes nothing.
-use mathlib.Core.Path.{refl, sym}
-use mathlib.Core.Bool.{false}
+use mathlib.Core.Path.{refl, ap}
 use mathlib.Core.List.{[], ◌∷◌, flatten}
 use Rattle.base.specs.Measure.{spaces}
 use Rattle.base.specs.Utf8.{utf8, form1, form2, form3}
 use Rattle.base.proofs.Same.{same_not}
+use Rattle.figures.specs.Groups.{total}
 use Rattle.settings.specs.Settings.{accusative, in_case, ukrainian_ranges, french_ranges}
 use Rattle.settings.proofs.Ranges.{in_range}
 use Rattle.tokens.specs.Tokens.{split, full_key, key}
@@ -33,7 +33,7 @@ use Rattle.uk_read.proofs.Compared.{made}
 use Rattle.uk_read.proofs.Falls.{lone}
 use Rattle.fr_read.specs.Reading.{meanings, seems, groups_read, guessed}
 use Rattle.fr_read.proofs.Below as below
-use Rattle.fr_read.proofs.Decided.{right}
+use Rattle.fr_read.proofs.Decided.{found}
 use Rattle.fr_calls.specs.FrCalls.{fr_from_cardinal}
 use Rattle.samples.specs.Samples.{usual, usual_with, usual_french, reads_not, Holds, sample_table, All}
 use Rattle.samples.proofs.NoSentence.{no_sentence_lem, thousands}
@@ -67,7 +67,7 @@ french_reader = tt
 un_mille : Holds (reads_not (fr_from_cardinal usual_french) "un mille")
 unfolding french_rules french_reader
 un_mille =
-    no_sentence_lem (right usual_french (in_range (french_ranges usual_french) refl) (utf8 "un mille") false refl (0 ∷ 1 ∷ below.zeros 32) (sym (below.one_below 1 1 32 []))) refl refl
+    no_sentence_lem (found usual_french (in_range (french_ranges usual_french) refl) (utf8 "un mille")) (ap total (below.one_below 1 1 32 [])) refl
 
 -- pairs without brackets
 infixr 2 ◌&◌

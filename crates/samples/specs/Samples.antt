@@ -8,7 +8,7 @@ use Rattle.base.specs.Answer.{wrong_setting, malformed, wrong_sign, too_large, n
 use Rattle.base.specs.Measure.{measured}
 use Rattle.base.specs.Reading.{Reading, Replies}
 use Rattle.settings.specs.Settings.{masculine, feminine, singular, nominative, genitive, dative, accusative, instrumental, locative, old_spelling, new_spelling, region_fr, region_ch, letter_apostrophe, ported_style, ukrainian_settings, french_settings, in_gender, in_case}
-use Rattle.settings.specs.declared.Settings.{Settings}
+use Rattle.settings.specs.Settings.{Settings}
 use Rattle.uk_calls.specs.UkCardinals.{uk_to_cardinal, uk_from_cardinal}
 use Rattle.uk_ordinal_calls.specs.UkOrdinals.{uk_to_ordinal, uk_to_ordinal_num, uk_to_year}
 use Rattle.uk_money_calls.specs.MoneyCalls.{uk_to_currency}

@@ -1,3 +1,3 @@
 pub mod Settings
 pub mod Refused
-pub mod Packed
+pub mod Chosen

@@ -22,10 +22,6 @@ low_next t i m n e =
     let z : i + 0 ≡ i = omega arith in
     (ap (λ (j : ℕ). get_or t j 0) (sym z) ∙ sym (get_or-drop i t 0 0) ∙ ap (λ (l : List ℕ). get_or l 0 0) e, sym (drop-drop 1 i t) ∙ ap (drop 1) e)
 
--- a place has 13 bytes
-pub place_length : (p : Place) → length (place_bytes p) ≡ 13
-place_length p = refl
-
 -- 13 bytes for each place
 pub bytes_length : (ps : List Place) → length (places_bytes ps) ≡ 13 * length ps
 bytes_length [] = refl

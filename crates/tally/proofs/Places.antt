@@ -9,6 +9,7 @@ use lib.Dec.{eqb, ltb, leb-suc-suc}
 use lib.ListN.{length, get_or, set, take, drop}
 use lib.Seq.{drop-drop, drop-cons}
 use borrow.Author.Tests.{lt-ltb, eq-eqb, ne_eqb}
+use Rattle.std.proofs.Common.{None}
 use Rattle.base.specs.Bytes.{num}
 use Rattle.figures.specs.Money.{money_limit}
 use Rattle.tally.specs.Tally.{in_hundredths, sum_in, is_under, exchanged}
@@ -107,9 +108,5 @@ under_found i (p ∷ ps) = at (eqb p.item i) (under_found i ps)
     at false e = e ∙ sym (leb-suc-suc (suc (place_under i ps)) (length ps))
 
 -- a sum above the limit
-pub is_beyond : (n : ℕ) → money_limit < n / 100 → IsSum (record { within = false; whole = 0; hundredths = 0 }) n
-is_beyond n h = record { if_within = λ e. absurd (let z : ◌≡◌ {A = ℕ} 0 1 = cc in omega arith); if_beyond = λ e. h }
-
--- a sum within it
-pub is_within : (w h n : ℕ) → in_hundredths w h ≡ n → IsSum (record { within = true; whole = w; hundredths = h }) n
-is_within w h n e = record { if_within = λ t. e; if_beyond = λ f. absurd (let z : ◌≡◌ {A = ℕ} 0 1 = cc in omega arith) }
+pub is_beyond : (n : ℕ) → money_limit < n / 100 → IsSum None n
+is_beyond n h = record { if_within = λ s e. cc; if_beyond = λ e. h }

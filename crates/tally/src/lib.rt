@@ -3,18 +3,17 @@
 pub mod sums; // sums.rt: the sum of places
 mod stores; // stores.rt: numbers as bytes
 
-ghost use Rattle.std.specs.Prelude.{◌≡◌, ◌∷◌, ◌++◌, suc, ◌≤◌, ◌<◌, length, get_or, set, take, drop};
-ghost use Rattle.std.proofs.Math.Option.{none, some};
+ghost use Rattle.std.specs.Prelude.{◌≡◌, ◌∷◌, ◌++◌, ◌≤◌, ◌<◌, length, get_or, set, take, drop};
 ghost use Rattle.base.specs.Buffer.{over};
 ghost use Rattle.base.specs.Bytes.{num, low_bytes};
 ghost use Rattle.uk_money.specs.Rows.{currency_at};
 ghost use Rattle.tally.specs.Tally.{empty_tally};
-ghost use Rattle.tally.specs.Layout.{place_bytes, places_bytes, places_in, tally_bytes, tally_of, tally_in};
-ghost use Rattle.tally.specs.Sums.{place_under};
+ghost use Rattle.tally.specs.Layout.{place_bytes, places_bytes, places_in, tally_bytes};
+ghost use Rattle.tally.specs.Sums.{FoundUnder, CurrencyIn};
 
 use base::loads::get4;
 use stores::put;
-use uk_money::CURRENCIES;
+use uk_money::CurrencyId;
 
 // An amount under its item number, 0 for none.
 #[derive(Clone, Copy)]
@@ -24,10 +23,9 @@ pub struct Place {
     pub hundredths: u32,
 }
 
-// A sum of amounts: whether its whole part is within the money limit, and then what it is.
+// A sum of amounts, whose whole part is within the money limit.
 #[derive(Clone, Copy)]
 pub struct Sum {
-    pub within: bool,
     pub whole: u64,
     pub hundredths: u32,
 }
@@ -50,19 +48,14 @@ const WHOLE: usize = 4;
 
 const HUNDREDTHS: usize = 12;
 
-// The place of a tally's currency, or CURRENCIES where the bytes hold no tally.
-pub fn currency_of(tally: &[u8]) -> usize
-    ensures in_bounds { result < 44 → (837 ≤ length tally.now) × (get_or tally.now 0 0 ≡ suc result) × (tally_in tally.now ≡ tally_of (some (currency_at result)) tally.now) }
-    ensures tally_value { (result < 44 → ⊥) → tally_in tally.now ≡ none }
+// A tally's currency, if the bytes hold a tally.
+pub fn currency_of(tally: &[u8]) -> Option<CurrencyId>
+    ensures { CurrencyIn tally.now result }
 {
     if tally.len() < SIZE {
-        return CURRENCIES;
+        return None;
     }
-    let n = tally[0] as usize;
-    if n == 0 {
-        return CURRENCIES;
-    }
-    n - 1
+    CurrencyId::new(usize::from(tally[0]).checked_sub(1)?)
 }
 
 // The item numbers that it has given.
@@ -73,20 +66,18 @@ pub fn given_by(tally: &[u8]) -> u32
     get4(tally, GIVEN) as u32
 }
 
-// Which place is the first with this item number; PLACES where none has it.
-pub fn find(tally: &[u8], item: u32) -> usize
+// Which place is the first with this item number, if one has it.
+pub fn find(tally: &[u8], item: u32) -> Option<usize>
     requires { 837 ≤ length tally.now }
-    ensures { result ≡ place_under item (places_in 64 (drop 5 tally.now)) }
+    ensures { FoundUnder item (places_in 64 (drop 5 tally.now)) result }
 {
-    let sought = item as u64;
-    let mut i = 0;
-    while i < PLACES {
+    let sought = u64::from(item);
+    for i in 0..PLACES {
         if get4(tally, HEAD + i * PLACE) == sought {
-            return i;
+            return Some(i);
         }
-        i += 1;
     }
-    PLACES
+    None
 }
 
 // Writes a place.
@@ -94,9 +85,9 @@ fn put_place(place: Place, out: &mut [u8])
     requires { 13 ≤ length out.old }
     ensures { out.new ≡ over out.old (place_bytes place) }
 {
-    put(place.item as u64, 4, out);
+    put(u64::from(place.item), 4, out);
     put(place.whole, 8, &mut out[WHOLE..]);
-    put(place.hundredths as u64, 1, &mut out[HUNDREDTHS..]);
+    put(u64::from(place.hundredths), 1, &mut out[HUNDREDTHS..]);
 }
 
 // Stores how many item numbers are given, and a place.
@@ -104,14 +95,14 @@ pub fn store(given: u32, i: usize, place: Place, tally: &mut [u8])
     requires { (i < 64) × (837 ≤ length tally.old) }
     ensures { tally.new ≡ over tally.old (get_or tally.old 0 0 ∷ (low_bytes 4 given ++ places_bytes (set (places_in 64 (drop 5 tally.old)) i place))) }
 {
-    put(given as u64, 4, &mut tally[GIVEN..]);
+    put(u64::from(given), 4, &mut tally[GIVEN..]);
     put_place(place, &mut tally[HEAD + i * PLACE..]);
 }
 
 // Writes the empty tally of a currency.
-pub fn put_empty(currency: usize, out: &mut [u8])
-    requires { (currency < 44) × (837 ≤ length out.old) }
-    ensures { out.new ≡ over out.old (tally_bytes (empty_tally (currency_at currency))) }
+pub fn put_empty(currency: CurrencyId, out: &mut [u8])
+    requires { (837 ≤ length out.old) }
+    ensures { out.new ≡ over out.old (tally_bytes (empty_tally (currency_at currency.place))) }
 {
-    put(currency as u64 + 1, SIZE, out);
+    put(currency.place as u64 + 1, SIZE, out);
 }

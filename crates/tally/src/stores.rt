@@ -9,10 +9,8 @@ pub fn put(n: u64, k: usize, out: &mut [u8])
     ensures { out.new ≡ over out.old (low_bytes k n) }
 {
     let mut rest = n;
-    let mut i = 0;
-    while i < k {
-        out[i] = (rest % 256) as u8;
+    for byte in &mut out[..k] {
+        *byte = (rest % 256) as u8;
         rest /= 256;
-        i += 1;
     }
 }

@@ -11,7 +11,7 @@ use lib.Dec.{eqb, ltb}
 use lib.ListN.{length}
 use Rattle.base.specs.Answer.{first_of, Spelling, Reply, refused, bytes, fitted, unless, replied}
 use Rattle.settings.specs.Settings.{ukrainian_ranges}
-use Rattle.settings.specs.declared.Settings.{Settings}
+use Rattle.settings.specs.Settings.{Settings}
 use Rattle.settings.proofs.Ranges.{unrefused}
 use Rattle.figures.specs.Money.{whole_of, money_formed, money_limit}
 use Rattle.figures.specs.Text.{negative}

@@ -12,7 +12,7 @@ use lib.ListN.{length, drop}
 use Rattle.base.specs.Answer.{no_room, Spelling, Reply, refused, bytes, number_of, length_of, buffer_of, unless, replied, Answers}
 use Rattle.base.specs.Buffer.{over}
 use Rattle.base.specs.declared.Answer.{Answer}
-use Rattle.settings.specs.declared.Settings.{Settings}
+use Rattle.settings.specs.Settings.{Settings}
 use Rattle.figures.specs.Money.{whole_of, hundredths_of, money_limit}
 use Rattle.figures.specs.Refusals.{amount_refusals, Admitted}
 use Rattle.uk_money.specs.Currencies.{Currency}

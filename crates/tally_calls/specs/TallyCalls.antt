@@ -6,7 +6,7 @@ use Rattle.base.specs.Answer.{wrong_code, tally_full, sum_too_large, not_held, f
 use Rattle.base.specs.Buffer.{over}
 use Rattle.settings.specs.Settings.{ukrainian_ranges}
 use Rattle.settings.specs.Refused.{out_of_range}
-use Rattle.settings.specs.declared.Settings.{Settings}
+use Rattle.settings.specs.Settings.{Settings}
 use Rattle.figures.specs.Money.{whole_of, hundredths_of, money_limit}
 use Rattle.figures.specs.Refusals.{amount_refusals}
 use Rattle.uk_money.specs.Currencies.{Currency}

@@ -1,17 +1,18 @@
 // An amount from its text, and a sum spoken.
 ghost use Rattle.std.specs.Prelude.{◌≡◌, ◌<◌};
 ghost use Rattle.base.specs.Answer.{fitted, Answers};
-ghost use Rattle.settings.specs.Settings.{ukrainian_ranges, Within};
+ghost use Rattle.base.specs.Refused.{answer_of};
+ghost use Rattle.settings.specs.Chosen.{numbers_of};
 ghost use Rattle.figures.specs.Money.{whole_of, hundredths_of};
 ghost use Rattle.figures.specs.Refusals.{amount_refusals, Admitted};
 ghost use Rattle.uk_money.specs.Rows.{currency_at};
 ghost use Rattle.uk_money.specs.Money.{amount_phrase};
 
-use base::Answer;
-use settings::Settings;
-use tally::Place;
-use uk::ORDERS;
-use uk_money_plan::PLAN;
+use base::Refusal;
+use groups::Number;
+use settings::Ukrainian;
+use tally::{Place, Sum};
+use uk_money::CurrencyId;
 
 // The amount of an admitted text under an item number.
 pub fn amount_of(item: u32, text: &[u8]) -> Place
@@ -29,26 +30,15 @@ pub fn amount_of(item: u32, text: &[u8]) -> Place
 
 // The phrase of a sum: planned, measured, written.
 pub fn speak_sum(
-    settings: Settings,
-    currency: usize,
-    whole: u64,
-    hundredths: u32,
+    settings: Ukrainian,
+    currency: CurrencyId,
+    sum: Sum,
     out: &mut [u8],
-) -> Answer
-    requires { Within (ukrainian_ranges settings) × (currency < 44) × (hundredths < 100) }
-    ensures { Answers result out.old out.new (fitted out.old (amount_phrase settings (currency_at currency) whole hundredths)) }
+) -> Result<usize, Refusal>
+    requires { sum.hundredths < 100 }
+    ensures { Answers (answer_of result) out.old out.new (fitted out.old (amount_phrase (numbers_of settings) (currency_at currency.place) sum.whole sum.hundredths)) }
 {
-    let mut gs = [0u16; ORDERS];
-    let n = groups::groups_from(whole, &mut gs);
-    let mut plan = [0u32; PLAN];
-    let k = uk_money_plan::plan_money(
-        settings,
-        currency,
-        whole == 0,
-        n,
-        &gs,
-        hundredths,
-        &mut plan,
-    );
-    uk::speak(&plan, k, out)
+    let whole = Number::of(sum.whole);
+    let plan = uk_money_plan::plan_money(settings, currency, &whole, sum.hundredths);
+    uk::speak(plan.codes(), out)
 }

@@ -1,24 +1,25 @@
 // What adding and removing come to on a tally that is only looked at: what is refused, in 02's order, the new total's phrase, and what is to be stored.
-ghost use Rattle.std.specs.Prelude.{◌≡◌, suc, ◌≤◌, ◌<◌, length, get_or};
+ghost use Rattle.std.specs.Prelude.{◌≡◌, suc, ◌≤◌, ◌<◌, length, get_or, IfOk};
 ghost use Rattle.std.proofs.Math.Option.{some};
-ghost use Rattle.settings.specs.Settings.{ukrainian_settings, ukrainian_ranges, Within};
+ghost use Rattle.base.specs.Answer.{replied, Answers};
+ghost use Rattle.settings.specs.Settings.{ukrainian_settings};
+ghost use Rattle.settings.specs.Chosen.{numbers_of};
 ghost use Rattle.figures.specs.Refusals.{amount_refusals, Admitted};
 ghost use Rattle.uk_money.specs.Rows.{currency_at};
 ghost use Rattle.tally.specs.Layout.{tally_of};
 ghost use Rattle.tally_calls.specs.TallyCalls.{adding, removing, adds, removes, move_of};
-ghost use Rattle.tally_calls.specs.Changes.{weighing, Weighs, Prepares};
+ghost use Rattle.tally_calls.specs.Changes.{weighing, change_answer, Prepares};
 
 use crate::amounts::{amount_of, speak_sum};
-use base::{NOT_HELD, SUM_TOO_LARGE, TALLY_FULL, WRONG_CODE, WRONG_SETTING};
-use settings::Settings;
-use tally::{PLACES, Place};
-use uk_money::CURRENCIES;
+use base::Refusal;
+use figures::refusals::judge_amount;
+use settings::Ukrainian;
+use tally::Place;
+use uk_money::CurrencyId;
 
-// What a call on a tally comes to: its refusal and its phrase's length; and where it refuses nothing what is to be stored, how many item numbers are given
-// then, and a place.
+// What a call on a tally comes to: its phrase's length, and what is to be stored: how many item numbers are given then, and a place.
 #[derive(Clone, Copy)]
 pub struct Change {
-    pub refusal: u32,
     pub length: usize,
     pub given: u32,
     pub at: usize,
@@ -35,90 +36,68 @@ const FREE: Place = Place {
     hundredths: 0,
 };
 
-// A refusal that reports no length.
-fn unchanged(refusal: u32) -> Change
-    ensures { (result.refusal ≡ refusal) × (result.length ≡ 0) }
-{
-    Change {
-        refusal,
-        length: 0,
-        given: 0,
-        at: 0,
-        place: FREE,
-    }
-}
-
 // Another place in one of the tally's: the new sum is tested, and then spoken.
 fn weigh(
-    settings: Settings,
-    currency: usize,
+    settings: Ukrainian,
+    currency: CurrencyId,
     given: u32,
     at: usize,
     place: Place,
     tally: &[u8],
     out: &mut [u8],
-) -> Change
-    requires { Within (ukrainian_ranges settings) × (currency < 44) × (at < 64) × (place.hundredths < 100) × (837 ≤ length tally.now) }
-    ensures weighs { Weighs result out.old out.new (weighing settings currency at place tally.now) }
-    ensures given_value { result.refusal ≡ 0 → (result.given ≡ given) × (result.at ≡ at) × (result.place ≡ place) }
+) -> Result<Change, Refusal>
+    requires { (at < 64) × (place.hundredths < 100) × (837 ≤ length tally.now) }
+    ensures weighs { Answers (change_answer result) out.old out.new (replied (weighing (numbers_of settings) currency.place at place tally.now) out.old) }
+    ensures stored { IfOk result (λ c. (c.given ≡ given) × (c.at ≡ at) × (c.place ≡ place)) }
 {
-    let sum = tally::sums::sum_with(tally, at, place);
-    let within = sum.within;
-    if within {
-        let spoken = speak_sum(settings, currency, sum.whole, sum.hundredths, out);
-        return Change {
-            refusal: spoken.number,
-            length: spoken.length,
-            given,
-            at,
-            place,
-        };
-    }
-    unchanged(SUM_TOO_LARGE)
+    let sum = tally::sums::sum_with(tally, at, place).ok_or(Refusal::SumTooLarge)?;
+    let length = speak_sum(settings, currency, sum, out)?;
+    Ok(Change {
+        length,
+        given,
+        at,
+        place,
+    })
 }
 
 // Adding an admitted text.
 fn add_amount(
-    settings: Settings,
-    currency: usize,
+    settings: Ukrainian,
+    currency: CurrencyId,
     tally: &[u8],
     text: &[u8],
     out: &mut [u8],
-) -> Change
-    requires { Within (ukrainian_ranges settings) × (currency < 44) × (837 ≤ length tally.now) × Admitted (amount_refusals text.now) × (get_or tally.now 0 0 ≡ suc currency) }
-    ensures { Prepares result tally.now out.old out.new (adding settings (tally_of (some (currency_at currency)) tally.now) text.now) }
+) -> Result<Change, Refusal>
+    requires { (837 ≤ length tally.now) × Admitted (amount_refusals text.now) × (get_or tally.now 0 0 ≡ suc currency.place) }
+    ensures { Prepares result tally.now out.old out.new (adding (numbers_of settings) (tally_of (some (currency_at currency.place)) tally.now) text.now) }
 {
     let given = tally::given_by(tally);
-    let at = tally::find(tally, 0);
-    if given < LAST_ITEM {
-        if at < PLACES {
-            let item = given + 1;
-            let place = amount_of(item, text);
-            return weigh(settings, currency, item, at, place, tally, out);
-        }
+    let at = tally::find(tally, 0).ok_or(Refusal::TallyFull)?;
+    if given == LAST_ITEM {
+        return Err(Refusal::TallyFull);
     }
-    unchanged(TALLY_FULL)
+    let item = given + 1;
+    let place = amount_of(item, text);
+    weigh(settings, currency, item, at, place, tally, out)
 }
 
 // Removing under settings in their ranges.
 fn remove_item(
-    settings: Settings,
-    currency: usize,
+    settings: Ukrainian,
+    currency: CurrencyId,
     item: u32,
     tally: &[u8],
     out: &mut [u8],
-) -> Change
-    requires { Within (ukrainian_ranges settings) × (currency < 44) × (837 ≤ length tally.now) × (get_or tally.now 0 0 ≡ suc currency) }
-    ensures { Prepares result tally.now out.old out.new (removing settings (tally_of (some (currency_at currency)) tally.now) item) }
+) -> Result<Change, Refusal>
+    requires { (837 ≤ length tally.now) × (get_or tally.now 0 0 ≡ suc currency.place) }
+    ensures { Prepares result tally.now out.old out.new (removing (numbers_of settings) (tally_of (some (currency_at currency.place)) tally.now) item) }
 {
-    let at = tally::find(tally, item);
-    if item != 0 {
-        if at < PLACES {
-            let given = tally::given_by(tally);
-            return weigh(settings, currency, given, at, FREE, tally, out);
-        }
+    if item == 0 {
+        return Err(Refusal::NotHeld);
     }
-    unchanged(NOT_HELD)
+    let at = tally::find(tally, item).ok_or(Refusal::NotHeld)?;
+    let given = tally::given_by(tally);
+    weigh(settings, currency, given, at, FREE, tally, out)
 }
 
 // Adding the amount of a text.
@@ -131,22 +110,13 @@ pub fn add_to(
     tally: &[u8],
     text: &[u8],
     out: &mut [u8],
-) -> Change
+) -> Result<Change, Refusal>
     ensures { Prepares result tally.now out.old out.new (move_of (adds (ukrainian_settings gender number case apostrophe style) text.now) tally.now) }
 {
-    if settings::is_ukrainian(gender, number, case, apostrophe, style) {
-        let currency = tally::currency_of(tally);
-        if currency < CURRENCIES {
-            let n = figures::refusals::number_of(figures::refusals::judge_amount(text));
-            if n == 0 {
-                let settings = settings::ukrainian(gender, number, case, apostrophe, style);
-                return add_amount(settings, currency, tally, text, out);
-            }
-            return unchanged(n);
-        }
-        return unchanged(WRONG_CODE);
-    }
-    unchanged(WRONG_SETTING)
+    let settings = Ukrainian::new(gender, number, case, apostrophe, style)?;
+    let currency = tally::currency_of(tally).ok_or(Refusal::WrongCode)?;
+    judge_amount(text)?;
+    add_amount(settings, currency, tally, text, out)
 }
 
 // Removing the amount under an item number.
@@ -159,16 +129,10 @@ pub fn remove_from(
     item: u32,
     tally: &[u8],
     out: &mut [u8],
-) -> Change
+) -> Result<Change, Refusal>
     ensures { Prepares result tally.now out.old out.new (move_of (removes (ukrainian_settings gender number case apostrophe style) item) tally.now) }
 {
-    if settings::is_ukrainian(gender, number, case, apostrophe, style) {
-        let currency = tally::currency_of(tally);
-        if currency < CURRENCIES {
-            let settings = settings::ukrainian(gender, number, case, apostrophe, style);
-            return remove_item(settings, currency, item, tally, out);
-        }
-        return unchanged(WRONG_CODE);
-    }
-    unchanged(WRONG_SETTING)
+    let settings = Ukrainian::new(gender, number, case, apostrophe, style)?;
+    let currency = tally::currency_of(tally).ok_or(Refusal::WrongCode)?;
+    remove_item(settings, currency, item, tally, out)
 }

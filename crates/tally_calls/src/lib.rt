@@ -4,16 +4,16 @@
 pub mod deciding; // deciding.rt: what is refused, in 02's order, and what is to be stored
 pub mod amounts; // amounts.rt: an amount from its text, and a sum spoken
 
-ghost use Rattle.std.specs.Prelude.{◌≡◌, ◌≤◌, ◌<◌, length};
+ghost use Rattle.std.specs.Prelude.{◌≡◌, ◌≤◌, ◌<◌, length, IfOk};
 ghost use Rattle.base.specs.Answer.{replied, Answers};
+ghost use Rattle.base.specs.Refused.{answer_of};
 ghost use Rattle.settings.specs.Settings.{ukrainian_settings};
 ghost use Rattle.tally_calls.specs.TallyCalls.{opening, adds, removes, move_of, Tallies, tally_after};
-ghost use Rattle.tally_calls.specs.Changes.{changed, reported_item};
+ghost use Rattle.tally_calls.specs.Changes.{changed};
 
-use base::{Answer, NO_ROOM, WRONG_CODE};
+use base::Refusal;
 use deciding::Change;
 use tally::SIZE;
-use uk_money::CURRENCIES;
 
 // What a call on a tally answers: 0, the item number given and the phrase's length, or a refusal's number and 0 twice, or for 7 the length needed.
 #[repr(C)]
@@ -24,49 +24,48 @@ pub struct Tallied {
     pub length: usize,
 }
 
-// Writes the empty tally of a code's currency.
-pub fn open(code: &[u8], out: &mut [u8]) -> Answer
-    ensures { Answers result out.old out.new (replied (opening code.now) out.old) }
-{
-    let currency = uk_money::code_of(code);
-    if currency < CURRENCIES {
-        if out.len() < SIZE {
-            return Answer {
-                number: NO_ROOM,
-                length: SIZE,
-            };
+impl From<Result<Change, Refusal>> for Tallied {
+    ghost use Rattle.std.specs.Prelude.{◌≡◌};
+    ghost use Rattle.tally_calls.specs.Changes.{tallied_of};
+
+    ghost from_gives = { λ told tallied. tallied ≡ tallied_of told };
+
+    fn from(told: Result<Change, Refusal>) -> Tallied {
+        match told {
+            Ok(change) => Tallied {
+                refusal: 0,
+                item: change.place.item,
+                length: change.length,
+            },
+            Err(refusal) => Tallied {
+                refusal: refusal.number(),
+                item: 0,
+                length: refusal.length(),
+            },
         }
-        tally::put_empty(currency, out);
-        return Answer {
-            number: 0,
-            length: SIZE,
-        };
     }
-    base::refused(WRONG_CODE)
 }
 
-// The answer to what was decided.
-pub fn answer_to(change: Change) -> Tallied
-    ensures { (result.refusal ≡ change.refusal) × (result.item ≡ reported_item change) × (result.length ≡ change.length) }
+// Writes the empty tally of a code's currency.
+pub fn open(code: &[u8], out: &mut [u8]) -> Result<usize, Refusal>
+    ensures { Answers (answer_of result) out.old out.new (replied (opening code.now) out.old) }
 {
-    let mut item = change.place.item;
-    if change.refusal != 0 {
-        item = 0;
+    let currency = uk_money::code_of(code).ok_or(Refusal::WrongCode)?;
+    if out.len() < SIZE {
+        return Err(Refusal::NoRoom(SIZE));
     }
-    Tallied {
-        refusal: change.refusal,
-        item,
-        length: change.length,
-    }
+    tally::put_empty(currency, out);
+    Ok(SIZE)
 }
 
 // Stores what was decided, unless it was refused.
-fn settle(change: Change, tally: &mut [u8])
-    requires { change.refusal ≡ 0 → (change.at < 64) × (837 ≤ length tally.old) }
-    ensures { tally.new ≡ changed change tally.old }
+fn settle(change: &Result<Change, Refusal>, tally: &mut [u8])
+    requires { IfOk change.now (λ c. (c.at < 64) × (837 ≤ length tally.old)) }
+    ensures { tally.new ≡ changed change.now tally.old }
 {
-    if change.refusal == 0 {
-        tally::store(change.given, change.at, change.place, tally);
+    match change {
+        Ok(change) => tally::store(change.given, change.at, change.place, tally),
+        Err(_) => (),
     }
 }
 
@@ -85,8 +84,8 @@ pub fn add(
     ensures tally_after { tally.new ≡ tally_after (move_of (adds (ukrainian_settings gender number case apostrophe style) text.now) tally.old) out.old tally.old }
 {
     let change = deciding::add_to(gender, number, case, apostrophe, style, tally, text, out);
-    settle(change, tally);
-    answer_to(change)
+    settle(&change, tally);
+    Tallied::from(change)
 }
 
 // Removes the amount under an item number from a tally.
@@ -104,6 +103,6 @@ pub fn remove(
     ensures tally_after { tally.new ≡ tally_after (move_of (removes (ukrainian_settings gender number case apostrophe style) item) tally.old) out.old tally.old }
 {
     let change = deciding::remove_from(gender, number, case, apostrophe, style, item, tally, out);
-    settle(change, tally);
-    answer_to(change)
+    settle(&change, tally);
+    Tallied::from(change)
 }

@@ -5,8 +5,8 @@ ghost use Rattle.settings.specs.Settings.{ukrainian_settings};
 ghost use Rattle.tally_calls.specs.TallyCalls.{adds, removes};
 ghost use Rattle.tally_previews.specs.Previews.{Previewed};
 
+use tally_calls::Tallied;
 use tally_calls::deciding::{add_to, remove_from};
-use tally_calls::{Tallied, answer_to};
 
 // What adding the amount of a text to a tally would answer.
 pub fn preview_add(
@@ -22,7 +22,7 @@ pub fn preview_add(
     ensures { Previewed (adds (ukrainian_settings gender number case apostrophe style) text.now) result out.old out.new tally.now tally.now }
 {
     let change = add_to(gender, number, case, apostrophe, style, tally, text, out);
-    answer_to(change)
+    Tallied::from(change)
 }
 
 // What removing the amount under an item number from a tally would answer.
@@ -39,5 +39,5 @@ pub fn preview_remove(
     ensures { Previewed (removes (ukrainian_settings gender number case apostrophe style) item) result out.old out.new tally.now tally.now }
 {
     let change = remove_from(gender, number, case, apostrophe, style, item, tally, out);
-    answer_to(change)
+    Tallied::from(change)
 }

@@ -5,15 +5,14 @@ use mathlib.Core.Path.{◌≡◌, refl, sym, ap, ap₂, ◌∙◌}
 use mathlib.Core.Bool.{Bool, true, false, cond}
 use mathlib.Core.List.{List, [], ◌∷◌}
 use native.Mathlib.Omega.{arith}
-use native.Mathlib.Nat.{mul_assoc, zero-add, add-mul-mod_self_left}
-use native.Mathlib.Numerals.{add-one}
+use native.Mathlib.Nat.{mul_assoc, zero-add, add-mul-mod_self_left, mod-lt}
 use borrow.Author.Tests.{eqb-true, ltb-true, ltb-false}
 use lib.Bits.{bit_and, bit_or, or_block, and_block, or_lt, and_le_r, and_zero_r}
 use lib.Count.{count_trailing_zeros}
 use lib.Dec.{eqb, ltb}
-use lib.ListN.{length, get_or, take, drop, length-drop, drop_of_length-le}
+use lib.ListN.{length, take, drop, length-drop, drop_of_length-le}
 use lib.Pow.{pow_pos, pow_mono, pow-add, mod-pow-add, shl_exact}
-use lib.Seq.{drop-drop, drop-cons, take_all}
+use lib.Seq.{drop-drop, take_all}
 use Rattle.base.specs.Bytes.{num, Bytes}
 use Rattle.base.proofs.Numbers.{bytes_drop}
 use Rattle.tables.proofs.Tests.{all_at}
@@ -116,19 +115,34 @@ lowest (suc n) w e = go (is_gap (w % 256)) e (lowest n (w / 256))
     go true e f = (sixth n (lows n v), omega arith)
     go false e f = let r = f (λ z. e (omega arith)) in (none n (lows n v) ∙ omega (arith, r.0), omega (arith, r.1))
 
-pub record Stops (z w : ℕ) : Type 0 where
+-- and the bytes before it are those below the power of two that the code makes of this bit
+pub record Cut (z w : ℕ) : Type 0 where
   pub small : letters 8 w < 8
   pub bit : z ≡ letters 8 w * 8 + 6
+  pub power : 1 * 2 ^ (z - 6) % 18446744073709551616 ≡ 2 ^ (letters 8 w * 8)
+  pub some : 0 < 2 ^ (letters 8 w * 8)
+  pub most : 2 ^ (letters 8 w * 8) ≤ 72057594037927936
+  pub below : w % 2 ^ (letters 8 w * 8) < 2 ^ (letters 8 w * 8)
 
-pub stops : (w m : ℕ) → Ends w → m ≡ lows 8 w → Stops (count_trailing_zeros 64 m) w
-stops w m e f = let r = lowest 8 w e in rw f (record { small = r.1; bit = r.0 })
+pub cut : (w m : ℕ) → Ends w → m ≡ lows 8 w → Cut (count_trailing_zeros 64 m) w
+cut w m e f = rw f (go (count_trailing_zeros 64 (lows 8 w)) r.0)
+  where
+    r : (count_trailing_zeros 64 (lows 8 w) ≡ letters 8 w * 8 + 6) × (letters 8 w < 8)
+    r = lowest 8 w e
 
--- the bytes before it are those below this bit
-pub shifted : (z p : ℕ) → z ≡ p * 8 + 6 → p < 8 → (1 * 2 ^ (z - 6) % 18446744073709551616 ≡ 2 ^ (p * 8)) × (0 < 2 ^ (p * 8)) × (2 ^ (p * 8) ≤ 72057594037927936)
-shifted z p e l =
-    let q : z - 6 ≡ p * 8 = omega arith in
-    let x : 1 * 2 ^ (z - 6) % 18446744073709551616 ≡ 1 * 2 ^ (z - 6) = shl_exact 1 (z - 6) 64 (omega arith) (omega arith) in
-    (x ∙ rw q (omega arith), pow_pos (p * 8), pow_mono {i = p * 8} {j = 56} (omega arith))
+    go : (z : ℕ) → z ≡ letters 8 w * 8 + 6 → Cut z w
+    go z b =
+        let l = r.1 in
+        let q : z - 6 ≡ letters 8 w * 8 = omega arith in
+        let x : 1 * 2 ^ (z - 6) % 18446744073709551616 ≡ 1 * 2 ^ (z - 6) = shl_exact 1 (z - 6) 64 (omega arith) (omega arith) in
+        record {
+          small = l;
+          bit = b;
+          power = x ∙ rw q (omega arith);
+          some = pow_pos (letters 8 w * 8);
+          most = pow_mono {i = letters 8 w * 8} {j = 56} (omega arith);
+          below = mod-lt w (pow_pos (letters 8 w * 8));
+        }
 
 -- a byte, and the number of those behind it
 low_byte : (b x : ℕ) → b < 256 → ((b + x * 256) % 256 ≡ b) × ((b + x * 256) / 256 ≡ x)
@@ -194,10 +208,6 @@ short (suc n) (b ∷ x) h l e = let m = low_byte b (num x) (h 0) in short n x (r
   where
     go : (t : Bool) → lows n (num x) * 256 + cond t 64 0 ≡ 0 → lows n (num x) ≡ 0
     go t e = omega arith
-
--- one more byte before others
-pub num_more : (s : List ℕ) (j b w : ℕ) → j < length s → b ≡ get_or s j 0 → w ≡ num (drop (j + 1) s) → b + w * 256 ≡ num (drop j s)
-num_more s j b w h e f = rw (drop-cons s j 0 h, e, f, add-one j) refl
 
 num_small : (x : List ℕ) → Bytes x → num x < 2 ^ (length x * 8)
 num_small [] h = omega arith

@@ -4,9 +4,6 @@ ghost use Rattle.std.specs.Prelude.{◌≡◌, cond, ◌+◌, ◌≤◌, ◌<◌
 ghost use Rattle.tokens.specs.Tokens.{Begun, Took};
 ghost use Rattle.tokens.specs.Turns.{lows, letters, last_key, Ends};
 
-use base::loads::get8;
-use base::wide;
-
 // The key of a text's first word, and how many bytes the word and the gap behind it have.
 #[derive(Clone, Copy)]
 pub struct Token {
@@ -42,14 +39,13 @@ fn end(k: u64, w: u64, i: usize, n: usize) -> Token
     requires { (k < 823685) × Ends w × (i + letters 8 w ≤ n) }
     ensures { (result.key ≡ (k + last_key (letters 8 w) w) % 823685) × (result.next ≡ cond (ltb (i + letters 8 w) n) (i + letters 8 w + 1) (i + letters 8 w)) }
 {
-    let z = u64::trailing_zeros(low(w)) as u64;
+    let z = low(w).trailing_zeros();
     let b = 1 << (z - 6);
-    let key = ((k + (w % b + b * END)) % KEYS) as u32;
     let e = i + (z / 8) as usize;
-    if e < n {
-        return Token { key, next: e + 1 };
+    Token {
+        key: ((k + (w % b + b * END)) % KEYS) as u32,
+        next: if e < n { e + 1 } else { e },
     }
-    Token { key, next: e }
 }
 
 // The end of a text's first word, of which the bytes before i add k to the key, where fewer than eight bytes are left.
@@ -59,10 +55,8 @@ fn last(s: &[u8], i: usize, k: u64) -> Token
 {
     let n = s.len();
     let mut w: u64 = 0;
-    let mut j = n;
-    while i < j {
-        j -= 1;
-        w = wide(s[j]) + w * 256;
+    for j in (i..n).rev() {
+        w = u64::from(s[j]) + w * 256;
     }
     end(k, w, i, n)
 }
@@ -72,16 +66,14 @@ pub fn first(s: &[u8]) -> Token
     ensures { Took s.now result.key result.next }
 {
     let n = s.len();
-    let eights = n - n % 8;
+    let (eights, _) = s.as_chunks::<8>();
     let mut k: u64 = 0;
-    let mut i: usize = 0;
-    while i < eights {
-        let w = get8(s, i);
+    for (turn, eight) in eights.iter().enumerate() {
+        let w = u64::from_le_bytes(*eight);
         if low(w) != 0 {
-            return end(k, w, i, n);
+            return end(k, w, turn * 8, n);
         }
         k = (k + w % KEYS) % KEYS;
-        i += 8;
     }
-    last(s, i, k)
+    last(s, n - n % 8, k)
 }

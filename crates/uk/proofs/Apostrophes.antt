@@ -13,8 +13,7 @@ use lib.ListN.{get_or, get_or-map}
 use Rattle.base.specs.Join.{Word}
 use Rattle.base.specs.Utf8.{encode, utf8, form2, form3}
 use Rattle.base.proofs.Replaced.{Turns, Stays, WordsTurn, none, word, chosen, plain1?, plain2?, plain3?, nothing, followed, apostrophe, encoded, plain, at1, at2, at3, one, words_append, joined_turns}
-use Rattle.settings.specs.Settings.{masculine, feminine, in_gender}
-use Rattle.settings.specs.declared.Settings.{Settings}
+use Rattle.settings.specs.Settings.{masculine, feminine, in_gender, Settings}
 use Rattle.cardinals.specs.Cardinal.{cardinal_phrase}
 use Rattle.cardinals.proofs.Replaced.{LexiconTurns, words_turn}
 use Rattle.uk.specs.UkTables.{zeros, gendered, units, teens_bases, teens_flexions, tens, hundreds, thousand_flexions, mega_bases, mega_flexions}

@@ -4,17 +4,8 @@ use Prim.Native.Nat.{ℕ, zero, suc, ◌<◌}
 use mathlib.Core.Path.{◌≡◌, refl}
 use mathlib.Core.Bool.{Bool, true, false, cond}
 use native.Mathlib.Omega.{arith}
-use Rattle.settings.specs.Settings.{masculine, feminine, singular, plural, genitive, ukrainian_ranges, Within, in_gender}
-use Rattle.settings.specs.declared.Settings.{Settings}
+use Rattle.settings.specs.Settings.{masculine, feminine, singular, plural, genitive, ukrainian_ranges, Within, in_gender, Settings}
 use Rattle.uk.specs.Ukrainian.{at_order, agreed_number, agreed_case, agreed}
-
-pub at_one : (k : ℕ) (S : Settings) → k ≡ 1 → in_gender feminine S ≡ at_order k S
-at_one k S e = rw e refl
-
-pub at_high : (k : ℕ) (S : Settings) → (k ≡ 0 → ⊥) → (k ≡ 1 → ⊥) → in_gender masculine S ≡ at_order k S
-at_high zero S a b = absurd (a refl)
-at_high (suc zero) S a b = absurd (b refl)
-at_high (suc (suc k)) S a b = refl
 
 -- settings in their ranges stay there in another gender, at an order, and in agreement
 pub gendered : (g : ℕ) (S : Settings) → g < 3 → Within (ukrainian_ranges S) → Within (ukrainian_ranges (in_gender g S))

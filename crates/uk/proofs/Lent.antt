@@ -5,13 +5,9 @@ use mathlib.Core.Path.{◌≡◌}
 use mathlib.Core.List.{List}
 use native.Mathlib.Omega.{arith}
 use lib.ListN.{take}
-use Rattle.plan.specs.Plan.{pieces, says, Below}
+use Rattle.plan.specs.Plan.{pieces, Below}
 use Rattle.plan.proofs.Front.{front_pieces}
 use Rattle.uk.specs.Pool.{uk_pool, front_size, front_places}
 
 pub front_all : (plan : List ℕ) → Below front_places plan → pieces (take front_size uk_pool) plan ≡ pieces uk_pool plan
 front_all plan b = front_pieces uk_pool front_size front_places (λ p h. omega arith) plan b
-
-pub front_says : (plan : List ℕ) (n : ℕ) → Below front_places (take n plan) → says (take front_size uk_pool) plan n ≡ says uk_pool plan n
-unfolding says
-front_says plan n b = front_all (take n plan) b

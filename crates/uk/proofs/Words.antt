@@ -10,8 +10,7 @@ use lib.ListN.{length, length-append}
 use Rattle.base.specs.Join.{Word}
 use Rattle.base.specs.Utf8.{form1, form2, form3}
 use Rattle.base.proofs.Words.{tested, Solid, Trails, followed, either, Solids, solids_append, at1, at2, at3}
-use Rattle.settings.specs.Settings.{ukrainian_ranges, Within}
-use Rattle.settings.specs.declared.Settings.{Settings}
+use Rattle.settings.specs.Settings.{ukrainian_ranges, Within, Settings}
 use Rattle.cardinals.specs.Cardinal.{cardinal_phrase}
 use Rattle.cardinals.proofs.Words.{GroupsSome, SolidWords, cardinal_solid}
 use Rattle.uk.specs.UkTables.{zeros, gendered, units, teens_bases, teens_flexions, tens, hundreds, thousand_flexions, mega_bases, mega_flexions}

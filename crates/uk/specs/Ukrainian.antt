@@ -5,8 +5,7 @@ use Rattle.std.specs.Prelude.{ℕ, zero, suc, ◌-◌, ◌/◌, ◌%◌, Bool, c
 use Rattle.base.specs.Join.{Word}
 use Rattle.base.specs.Signs.{space}
 use Rattle.base.specs.Utf8.{utf8, form1, form2, form3}
-use Rattle.settings.specs.Settings.{masculine, feminine, singular, plural, nominative, genitive, in_gender, in_form}
-use Rattle.settings.specs.declared.Settings.{Settings}
+use Rattle.settings.specs.Settings.{masculine, feminine, singular, plural, nominative, genitive, in_gender, in_form, Settings}
 use Rattle.cardinals.specs.Lexicon.{Lexicon}
 use Rattle.uk.specs.UkTables.{zeros, gendered, units, teens_bases, teens_flexions, tens, hundreds, thousand_flexions, mega_bases, mega_flexions}
 use Rattle.uk.specs.Apostrophes.{by_apostrophe1, by_apostrophe2}

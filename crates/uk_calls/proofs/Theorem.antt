@@ -7,7 +7,7 @@ use native.Mathlib.Omega.{arith}
 use Rattle.base.specs.Claim.{Inverse}
 use Rattle.base.proofs.Closing as closing
 use Rattle.settings.specs.Settings.{ukrainian_ranges}
-use Rattle.settings.specs.declared.Settings.{Settings}
+use Rattle.settings.specs.Settings.{Settings}
 use Rattle.settings.proofs.Ranges.{in_range, behind_settings}
 use Rattle.figures.specs.Refusals.{ukrainian_digit_limit, cardinal_refusals, Admitted}
 use Rattle.cardinals.proofs.Inverse as laws

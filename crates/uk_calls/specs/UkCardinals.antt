@@ -5,7 +5,7 @@ use Rattle.base.specs.Answer.{Spelling, first_of}
 use Rattle.base.specs.Reading.{Reading}
 use Rattle.settings.specs.Settings.{ukrainian_ranges}
 use Rattle.settings.specs.Refused.{out_of_range}
-use Rattle.settings.specs.declared.Settings.{Settings}
+use Rattle.settings.specs.Settings.{Settings}
 use Rattle.figures.specs.Text.{value, negative, unsigned}
 use Rattle.figures.specs.Refusals.{ukrainian_digit_limit, cardinal_refusals}
 use Rattle.figures.specs.Value.{NumberMeans}

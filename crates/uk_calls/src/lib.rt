@@ -1,72 +1,39 @@
 #![tactic(auto)]
 // Ukrainian cardinals from bytes to bytes, both ways, and their measure. No phrase is longer than the room that the program keeps for an answer.
 ghost use Rattle.std.specs.Prelude.{◌≡◌, true, ◌≤◌, length};
-ghost use Rattle.base.specs.Answer.{fitted, replied, Answers};
-ghost use Rattle.base.specs.Measure.{measure_of, measured};
+ghost use Rattle.base.specs.Answer.{replied, Answers};
+ghost use Rattle.base.specs.Refused.{answer_of, measure_in};
+ghost use Rattle.base.specs.Measure.{measured};
 ghost use Rattle.base.specs.Reading.{Reads as ReadsAs};
 ghost use Rattle.base.specs.Room.{phrase_room};
-ghost use Rattle.settings.specs.Settings.{ukrainian_settings, ukrainian_ranges, Within};
+ghost use Rattle.settings.specs.Settings.{ukrainian_settings};
+ghost use Rattle.settings.specs.Chosen.{numbers_of};
+ghost use Rattle.plan.specs.Phrase.{phrase_of};
+ghost use Rattle.plan.specs.Plan.{pieces};
+ghost use Rattle.uk.specs.Pool.{uk_pool};
 ghost use Rattle.figures.specs.Text.{well_formed, unsigned};
 ghost use Rattle.uk_calls.specs.UkCardinals.{uk_to_cardinal, uk_from_cardinal};
 
-use base::{Answer, Measure, WRONG_SETTING};
-use settings::Settings;
-use uk::{DIGITS, ORDERS};
+use base::{Refusal, Size};
+use figures::refusals::judge_cardinal;
+use groups::Number;
+use plan::Plan;
+use settings::Ukrainian;
+use uk::DIGITS;
 use uk_plan::PLAN;
 
-// The refusals of a spelling call but 7, or 0.
-fn refuse(gender: u32, number: u32, case: u32, apostrophe: u32, style: u32, text: &[u8]) -> u32
-    ensures { result ≡ (uk_to_cardinal (ukrainian_settings gender number case apostrophe style) text.now).refusal }
+// The plan of an admitted text.
+fn plan_text(settings: Ukrainian, text: &[u8]) -> Plan<PLAN>
+    requires { (well_formed text.now ≡ true) × (length (unsigned text.now) ≤ 66) }
+    ensures { (length result ≤ 111) × (phrase_of (pieces uk_pool result) ≡ (uk_to_cardinal (numbers_of settings) text.now).phrase) }
 {
-    if settings::is_ukrainian(gender, number, case, apostrophe, style) {
-        figures::refusals::number_of(figures::refusals::judge_cardinal(text, DIGITS))
-    } else {
-        WRONG_SETTING
-    }
-}
-
-// The phrase of an admitted text: planned, measured, written.
-fn spell(settings: Settings, text: &[u8], out: &mut [u8]) -> Answer
-    requires { Within (ukrainian_ranges settings) × (well_formed text.now ≡ true) × (length (unsigned text.now) ≤ 66) }
-    ensures answers { Answers result out.old out.new (fitted out.old (uk_to_cardinal settings text.now).phrase) }
-    ensures length_le_phrase_room { result.length ≤ phrase_room }
-{
-    let zero = figures::is_zero(text);
     let minus = figures::is_negative(text);
-    let digits = figures::after_sign(text);
-    let gs = groups::groups22(digits);
-    let mut plan = [0u32; PLAN];
-    let n = uk_plan::plan_cardinal(settings, zero, minus, groups::count(digits), &gs, &mut plan);
-    uk::speak(&plan, n, out)
-}
-
-// Its measure: planned and measured. What is planned stands here again: a function for both is too large to be inlined, and spelling a short figure
-// would take a tenth longer.
-fn measure(settings: Settings, text: &[u8]) -> Measure
-    requires { Within (ukrainian_ranges settings) × (well_formed text.now ≡ true) × (length (unsigned text.now) ≤ 66) }
-    ensures { result ≡ measure_of (uk_to_cardinal settings text.now).phrase }
-{
-    let zero = figures::is_zero(text);
-    let minus = figures::is_negative(text);
-    let digits = figures::after_sign(text);
-    let gs = groups::groups22(digits);
-    let orders = groups::count(digits);
-    let mut plan = [0u32; PLAN];
-    let pieces = uk_plan::plan_cardinal(settings, zero, minus, orders, &gs, &mut plan);
-    uk::measure(&plan, pieces)
-}
-
-// Any bytes, read under settings in their ranges.
-fn read(settings: Settings, said: &[u8], out: &mut [u8]) -> Answer
-    requires { (uk_from_cardinal settings).refusal ≡ 0 }
-    ensures { ReadsAs (uk_from_cardinal settings) said.now result out.old out.new }
-{
-    let mut gs = [0u16; ORDERS];
-    let read = uk_read::read_cardinal(settings, said, &mut gs);
-    numerals::put_read(read, &gs, out)
+    let number = Number::of_digits(figures::after_sign(text));
+    uk_plan::plan_cardinal(settings, minus, &number)
 }
 
 // The cardinal of a number text.
+#[tactic(auto, using(settings::proofs::Handed::handed))]
 pub fn to_cardinal(
     gender: u32,
     number: u32,
@@ -75,23 +42,17 @@ pub fn to_cardinal(
     style: u32,
     text: &[u8],
     out: &mut [u8],
-) -> Answer
-    ensures answers { Answers result out.old out.new (replied (uk_to_cardinal (ukrainian_settings gender number case apostrophe style) text.now) out.old) }
-    ensures length_le_phrase_room { result.length ≤ phrase_room }
+) -> Result<usize, Refusal>
+    ensures answers { Answers (answer_of result) out.old out.new (replied (uk_to_cardinal (ukrainian_settings gender number case apostrophe style) text.now) out.old) }
+    ensures length_le_phrase_room { (answer_of result).length ≤ phrase_room }
 {
-    let n = refuse(gender, number, case, apostrophe, style, text);
-    if n == 0 {
-        spell(
-            settings::ukrainian(gender, number, case, apostrophe, style),
-            text,
-            out,
-        )
-    } else {
-        base::refused(n)
-    }
+    let settings = Ukrainian::new(gender, number, case, apostrophe, style)?;
+    judge_cardinal(text, DIGITS)?;
+    uk::speak(plan_text(settings, text).codes(), out)
 }
 
 // What that phrase measures.
+#[tactic(auto, using(settings::proofs::Handed::handed))]
 pub fn measure_cardinal(
     gender: u32,
     number: u32,
@@ -99,21 +60,16 @@ pub fn measure_cardinal(
     apostrophe: u32,
     style: u32,
     text: &[u8],
-) -> Measure
-    ensures { result ≡ measured (uk_to_cardinal (ukrainian_settings gender number case apostrophe style) text.now) }
+) -> Result<Size, Refusal>
+    ensures { measure_in result ≡ measured (uk_to_cardinal (ukrainian_settings gender number case apostrophe style) text.now) }
 {
-    let n = refuse(gender, number, case, apostrophe, style, text);
-    if n == 0 {
-        measure(
-            settings::ukrainian(gender, number, case, apostrophe, style),
-            text,
-        )
-    } else {
-        base::unmeasured(n)
-    }
+    let settings = Ukrainian::new(gender, number, case, apostrophe, style)?;
+    judge_cardinal(text, DIGITS)?;
+    Ok(uk::measure(plan_text(settings, text).codes()))
 }
 
 // The number text of a cardinal.
+#[tactic(auto, using(settings::proofs::Handed::handed))]
 pub fn from_cardinal(
     gender: u32,
     number: u32,
@@ -122,16 +78,9 @@ pub fn from_cardinal(
     style: u32,
     said: &[u8],
     out: &mut [u8],
-) -> Answer
-    ensures { ReadsAs (uk_from_cardinal (ukrainian_settings gender number case apostrophe style)) said.now result out.old out.new }
+) -> Result<usize, Refusal>
+    ensures { ReadsAs (uk_from_cardinal (ukrainian_settings gender number case apostrophe style)) said.now (answer_of result) out.old out.new }
 {
-    if settings::is_ukrainian(gender, number, case, apostrophe, style) {
-        read(
-            settings::ukrainian(gender, number, case, apostrophe, style),
-            said,
-            out,
-        )
-    } else {
-        base::refused(WRONG_SETTING)
-    }
+    let settings = Ukrainian::new(gender, number, case, apostrophe, style)?;
+    numerals::put_read(uk_read::read_cardinal(settings, said), out)
 }

@@ -3,12 +3,11 @@
 mod counts;
 mod leads;
 
-ghost use Rattle.std.specs.Prelude.{◌≡◌, ◌%◌, ◌≤◌, ◌<◌, length, take};
+ghost use Rattle.std.specs.Prelude.{◌≡◌, ◌/◌, ◌%◌, ◌≤◌, ◌<◌, MatchOption, length, take};
 ghost use Rattle.base.specs.Bytes.{num};
 ghost use Rattle.uk_counts.specs.Counts.{count_of};
 
-use base::loads::{get2, get4};
-use base::wide;
+use base::loads::get8;
 
 // The byte that tells stands before this.
 const PLACES: usize = 16;
@@ -21,28 +20,39 @@ const LEADS: u64 = 100;
 const COUNTS: u32 = 64;
 
 // An entry is so many times how many a word counts, and the word's length.
-pub const SIZES: u32 = 64;
+const SIZES: u32 = 64;
+
+// How many a word counts, and its length.
+#[derive(Clone, Copy)]
+pub struct Counted {
+    pub value: u16,
+    pub length: usize,
+}
 
 // The first seven bytes as one number.
 fn seven(s: &[u8]) -> u64
-    requires { 7 ≤ length s.now }
+    requires { 8 ≤ length s.now }
     ensures { result ≡ num (take 7 s.now) }
 {
-    get4(s, 0) + get2(s, 4) * 4294967296 + wide(s[6]) * 281474976710656
+    get8(s, 0) % (1 << 56)
 }
 
-// The count word at the front of s: how many it counts and its length, as one number; 0 where there is none.
-pub fn count(s: &[u8]) -> u32
-    ensures { (result ≡ count_of s.now) × (result % 64 ≤ length s.now) × (result < 65536) }
+// The count word at the front of s.
+pub fn count(s: &[u8]) -> Option<Counted>
+    ensures { MatchOption result (count_of s.now ≡ 0) (λ c. (0 < count_of s.now) × (c.value ≡ count_of s.now / 64) × (c.length ≡ count_of s.now % 64) × (c.length ≤ length s.now) × (c.value < 1024)) }
 {
     if s.len() < PLACES {
-        return 0;
+        return None;
     }
     let lead = leads::lead_at((seven(s) % DIVISOR % LEADS) as u32);
-    let told = s[lead as usize % PLACES] as u32;
+    let told = u32::from(s[lead as usize % PLACES]);
     let entry = counts::count_at((lead / (PLACES as u32) + told) % COUNTS);
-    if s.len() < (entry % SIZES) as usize {
-        return 0;
+    let length = (entry % SIZES) as usize;
+    if entry == 0 || s.len() < length {
+        return None;
     }
-    entry
+    Some(Counted {
+        value: (entry / SIZES) as u16,
+        length,
+    })
 }

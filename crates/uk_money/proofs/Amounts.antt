@@ -8,8 +8,7 @@ use native.Mathlib.Nat.{lt_of_le_of_lt, lt_trans}
 use native.Mathlib.Omega.{arith}
 use lib.Dec.{lit<}
 use Rattle.base.specs.Join.{Word, joined}
-use Rattle.settings.specs.Settings.{in_gender}
-use Rattle.settings.specs.declared.Settings.{Settings}
+use Rattle.settings.specs.Settings.{in_gender, Settings}
 use Rattle.figures.specs.Money.{money_limit}
 use Rattle.cardinals.proofs.Numbers.{sentence, spelled}
 use Rattle.uk.specs.Ukrainian.{ukrainian}

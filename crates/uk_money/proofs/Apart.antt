@@ -10,8 +10,7 @@ use Rattle.base.specs.Join.{joined}
 use Rattle.base.specs.Utf8.{form2}
 use Rattle.base.specs.Same.{same_text}
 use Rattle.base.proofs.Same.{same_not}
-use Rattle.settings.specs.Settings.{ukrainian_ranges, Within}
-use Rattle.settings.specs.declared.Settings.{Settings}
+use Rattle.settings.specs.Settings.{ukrainian_ranges, Within, Settings}
 use Rattle.tables.proofs.Tests.{all, all_at}
 use Rattle.uk_money.specs.NounTables.{noun2st_group_hard_declensions, noun2st_group_soft_declensions, noun1st_group_soft_declensions_vowel, noun1st_group_hard_declensions, adjective_hard_masculine, hryvnias, kopiykas}
 use Rattle.uk_money.specs.Nouns.{endings, form_of, name_forms}

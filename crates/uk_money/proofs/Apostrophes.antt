@@ -8,8 +8,7 @@ use mathlib.Core.Option.{some}
 use Rattle.tables.proofs.Tests.{both_hold}
 use Rattle.base.specs.Utf8.{utf8}
 use Rattle.base.proofs.Replaced.{none, word, plain?, plain2?, every, every_at, followed, plain, at2, words_append, joined_turns}
-use Rattle.settings.specs.Settings.{in_gender}
-use Rattle.settings.specs.declared.Settings.{Settings}
+use Rattle.settings.specs.Settings.{in_gender, Settings}
 use Rattle.cardinals.proofs.Replaced.{words_turn}
 use Rattle.uk.specs.Ukrainian.{agreed}
 use Rattle.uk.proofs.Apostrophes.{TurnsAt, WordsTurnAt, ukrainian_turns}

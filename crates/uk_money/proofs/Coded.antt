@@ -12,7 +12,9 @@ use Rattle.base.specs.Utf8.{utf8}
 use Rattle.base.specs.Same.{same_text}
 use Rattle.uk_money.specs.Currencies.{Currency, currencies}
 use Rattle.uk_money.specs.Codes.{currency_in, currency_of}
-use Rattle.uk_money.specs.Rows.{code_place_in, code_place, past, currency_at}
+use Rattle.std.specs.Prelude.{Option, Some, None}
+use Rattle.uk_money.specs.Rows.{code_place_in, code_place, past, currency_at, CodedAt}
+use Rattle.uk_money.specs.declared.currency.CurrencyId.{CurrencyId}
 
 module _ (code : List ℕ) where
   some_in : (cs : List Currency) (d : Currency) → code_place_in cs code < length cs → currency_in cs code ≡ some (get_or cs (code_place_in cs code) d)
@@ -51,3 +53,11 @@ module _ (code : List ℕ) where
       go : Dec (code_place code < 44) → (code_place code < 44) × (currency_at (code_place code) ≡ c)
       go (yes h) = (h, some-injective _ _ (sym (known_code h) ∙ e))
       go (no h) = absurd (none-ne-some _ (sym (unknown_code (omega arith)) ∙ e))
+
+  -- what the code finds
+  module _ (r : Option CurrencyId) (c : CodedAt code r) where
+    pub found_code : (id : CurrencyId) → r ≡ Some id → currency_of code ≡ some (currency_at id.place)
+    found_code id e = rw (c.found id e) (known_code (rw (← c.found id e) id.known))
+
+    pub no_code : r ≡ None → currency_of code ≡ none
+    no_code e = unknown_code (c.none e)

@@ -3,41 +3,18 @@
 use Prim.Native.Nat.{ℕ, zero, suc, ◌+◌, ◌-◌, ◌*◌, ◌^◌, ◌<◌, ◌≤◌}
 use mathlib.Core.Path.{◌≡◌, refl, sym, ap, ◌∙◌}
 use mathlib.Core.Bool.{Bool, true, false, ◌&&◌}
-use mathlib.Core.List.{List, [], ◌∷◌}
+use mathlib.Core.List.{List, [], ◌∷◌, ◌++◌}
 use native.Mathlib.Omega.{arith}
 use native.Mathlib.Nat.{pow-succ', one-le-pow}
 use borrow.Author.Tests.{eq-eqb, ne_eqb, ltb-true, leb-true}
 use lib.Dec.{eqb, ltb, leb}
-use lib.ListN.{length, get_or, drop, length-drop}
-use lib.Seq.{drop-cons, get_or-drop}
+use lib.ListN.{length, get_or}
 use Rattle.base.specs.Utf8.{utf8}
 use Rattle.base.specs.Same.{same_text}
 use Rattle.base.proofs.Same.{same_is, same_not, other_length}
 use Rattle.tables.proofs.Tests.{and_left, and_right}
 use Rattle.uk_money.specs.Currencies.{Currency, currencies}
 use Rattle.uk_money.specs.Rows.{code_place_in, code_key, place_by_key}
-
--- the arm of a number, and what is left past the last arm
-pub found : {key k p : ℕ} → key ≡ k → p ≡ place_by_key currencies k → p ≡ place_by_key currencies key
-found e g = rw e g
-
-abbrev pub MissedAfter : Type 0 → ℕ → List Currency → Type 0
-MissedAfter A key [] = A
-MissedAfter A key (c ∷ cs) = MissedAfter (A × (key ≡ code_key (utf8 c.code) → ⊥)) key cs
-
-earlier : (A : Type 0) (key : ℕ) (cs : List Currency) → MissedAfter A key cs → A
-earlier A key [] m = m
-earlier A key (c ∷ cs) m = (earlier (A × (key ≡ code_key (utf8 c.code) → ⊥)) key cs m).0
-
-after : (A : Type 0) (key : ℕ) (cs : List Currency) → MissedAfter A key cs → place_by_key cs key ≡ length cs
-unfolding place_by_key
-after A key [] m = refl
-after A key (c ∷ cs) m =
-    let B : Type 0 = A × (key ≡ code_key (utf8 c.code) → ⊥) in
-    rw (ne_eqb key (code_key (utf8 c.code)) (earlier B key cs m).1) (ap suc (after B key cs m))
-
-pub missed : (key : ℕ) (cs : List Currency) → MissedAfter (Unit {0}) key cs → place_by_key cs key ≡ length cs
-missed key cs m = after (Unit {0}) key cs m
 
 -- two byte strings with one number
 abbrev Bytes : List ℕ → Type 0
@@ -117,7 +94,7 @@ unfolding currencies
 too_long s h = sym (place_long currencies s all_codes h)
 
 -- the number of a few bytes is small
-pub key_below : (n : ℕ) (s : List ℕ) → Bytes s → length s ≤ n → code_key s < 2 * 256 ^ n
+key_below : (n : ℕ) (s : List ℕ) → Bytes s → length s ≤ n → code_key s < 2 * 256 ^ n
 key_below n [] g h = let p = one-le-pow n 256 (omega arith) in omega arith
 key_below zero (b ∷ s) g h = absurd (omega arith)
 key_below (suc n) (b ∷ s) g h =
@@ -125,13 +102,26 @@ key_below (suc n) (b ∷ s) g h =
     let q = key_below n s (λ i. g (suc i)) (omega arith) in
     rw (pow-succ' 256 n) (omega arith)
 
--- from the end on
-module _ (s : List ℕ) (i : ℕ) (g : Bytes s) (o : 0 < i) (h : i ≤ length s) (k : length s ≤ 6) where
-  pub key_fits : code_key (drop i s) < 2 * 256 ^ 5
-  key_fits = key_below 5 (drop i s) (λ j. rw (get_or-drop i s j 0) (g (i + j))) (rw (length-drop i s) (omega arith))
+-- the number of some bytes before others, whose number this is
+unfoldable pub key_onto : ℕ → List ℕ → ℕ
+key_onto key [] = key
+key_onto key (b ∷ s) = b + 256 * key_onto key s
 
-  pub key_step : code_key (drop i s) * 256 + get_or s (i - 1) 0 ≡ code_key (drop (i - 1) s)
-  key_step =
-      let e : suc (i - 1) ≡ i = omega arith in
-      let d : drop (i - 1) s ≡ get_or s (i - 1) 0 ∷ drop i s = drop-cons s (i - 1) 0 (omega arith) ∙ ap (λ (n : ℕ). get_or s (i - 1) 0 ∷ drop n s) e in
-      rw d (omega arith)
+pub key_onto_end : (s : List ℕ) → key_onto 1 s ≡ code_key s
+unfolding key_onto
+key_onto_end [] = refl
+key_onto_end (b ∷ s) = rw (key_onto_end s) refl
+
+pub key_onto_last : (key b : ℕ) (s : List ℕ) → key_onto key (s ++ b ∷ []) ≡ key_onto (key * 256 + b) s
+unfolding key_onto
+key_onto_last key b [] = omega arith
+key_onto_last key b (a ∷ s) = rw (key_onto_last key b s) refl
+
+key_onto_le : (key : ℕ) (s : List ℕ) → key ≤ key_onto key s
+unfolding key_onto
+key_onto_le key [] = omega arith
+key_onto_le key (b ∷ s) = let h = key_onto_le key s in omega arith
+
+-- one byte more does not overflow
+pub key_fits : (code s : List ℕ) (key b : ℕ) → Bytes code → length code ≤ 6 → code_key code ≡ key_onto key (s ++ b ∷ []) → key * 256 + b < 2 ^ 64
+key_fits code s key b g h e = omega (arith, key_below 6 code g h, key_onto_le (key * 256 + b) s, key_onto_last key b s)

@@ -10,7 +10,7 @@ use lib.Dec.{ltb}
 use lib.ListN.{get_or, get_or-map}
 use Rattle.base.specs.Join.{Word}
 use Rattle.base.specs.Utf8.{form2}
-use Rattle.settings.specs.declared.Settings.{Settings}
+use Rattle.settings.specs.Settings.{Settings}
 use Rattle.words.specs.Part.{part}
 use Rattle.base.specs.Same.{same_text}
 use Rattle.base.proofs.Same.{same_is}

@@ -5,8 +5,7 @@ use mathlib.Core.Path.{◌≡◌, refl}
 use mathlib.Core.List.{List}
 use native.Mathlib.Omega.{arith}
 use Rattle.base.specs.Join.{Word}
-use Rattle.settings.specs.Settings.{letter_apostrophe, ported_style, ukrainian_settings, ukrainian_ranges, Within}
-use Rattle.settings.specs.declared.Settings.{Settings}
+use Rattle.settings.specs.Settings.{letter_apostrophe, ported_style, ukrainian_settings, ukrainian_ranges, Within, Settings}
 use Rattle.uk_money.specs.Nouns.{Name, form_of, name_forms}
 
 unfoldable pub forms_at : Name → ℕ → List Word

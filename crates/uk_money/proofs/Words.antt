@@ -14,8 +14,7 @@ use Rattle.base.specs.Join.{Word}
 use Rattle.base.specs.Signs.{space}
 use Rattle.base.specs.Utf8.{form2}
 use Rattle.base.proofs.Words.{solid?, tested, Solid, Solids, SomeSolid, some_append, joined_solid}
-use Rattle.settings.specs.Settings.{ukrainian_ranges, Within, in_gender}
-use Rattle.settings.specs.declared.Settings.{Settings}
+use Rattle.settings.specs.Settings.{ukrainian_ranges, Within, in_gender, Settings}
 use Rattle.cardinals.specs.Cardinal.{cardinal_words}
 use Rattle.cardinals.proofs.Words.{words_solid}
 use Rattle.uk.specs.Ukrainian.{agreed, ukrainian}

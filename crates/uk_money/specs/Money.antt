@@ -2,8 +2,7 @@
 -- Assumes nothing.
 use Rattle.std.specs.Prelude.{ℕ, zero, suc, false, List, ◌++◌}
 use Rattle.base.specs.Join.{Word, joined}
-use Rattle.settings.specs.Settings.{in_gender}
-use Rattle.settings.specs.declared.Settings.{Settings}
+use Rattle.settings.specs.Settings.{in_gender, Settings}
 use Rattle.cardinals.specs.Cardinal.{cardinal_words}
 use Rattle.uk.specs.Ukrainian.{ukrainian}
 use Rattle.uk_money.specs.Nouns.{Name, agreed_name}

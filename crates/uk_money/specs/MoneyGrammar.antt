@@ -2,8 +2,7 @@
 -- Assumes nothing.
 use Rattle.std.specs.Prelude.{ℕ, ◌≤◌, ◌<◌, ◌≡◌, false, List, ◌++◌}
 use Rattle.base.specs.Join.{Word, joined}
-use Rattle.settings.specs.Settings.{in_gender}
-use Rattle.settings.specs.declared.Settings.{Settings}
+use Rattle.settings.specs.Settings.{in_gender, Settings}
 use Rattle.figures.specs.Money.{money_limit}
 use Rattle.cardinals.specs.Grammar.{Sentence}
 use Rattle.uk.specs.Ukrainian.{ukrainian}

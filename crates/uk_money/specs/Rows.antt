@@ -2,15 +2,16 @@
 -- gender; and a code as one number. These only tie the code to the tables, but that a
 -- tally keeps its currency's place (`currency_at`, `code_place`).
 -- Assumes nothing.
-use Rattle.std.specs.Prelude.{ℕ, zero, suc, ◌+◌, ◌*◌, ◌/◌, ◌%◌, ◌<◌, ◌≡◌, cond, List, [], ◌∷◌, ◌++◌, eqb, get_or}
+use Rattle.std.specs.Prelude.{ℕ, zero, suc, ◌+◌, ◌*◌, ◌/◌, ◌%◌, ◌<◌, ◌≤◌, ◌≡◌, cond, List, [], ◌∷◌, ◌++◌, eqb, get_or, Option, Some, None}
 use Rattle.base.specs.Join.{Word}
 use Rattle.base.specs.Utf8.{utf8, form2}
 use Rattle.base.specs.Same.{same_text}
 use Rattle.words.specs.Part.{part}
 use Rattle.uk.specs.Pool.{uk_pool}
 use Rattle.uk_money.specs.Nouns.{Class, hard2, soft2, vowel1, hard1, adj, undeclined, hryvnia, kopiyka, endings, Name, masculine_name, name_forms}
-use Rattle.settings.specs.declared.Settings.{Settings}
+use Rattle.settings.specs.Settings.{Settings}
 use Rattle.uk_money.specs.Currencies.{Currency, currency, currencies}
+use Rattle.uk_money.specs.declared.currency.CurrencyId.{CurrencyId}
 
 -- the classes by their numbers
 abbrev pub classes : List Class
@@ -59,6 +60,11 @@ code_place_in (c ∷ cs) code = cond (same_text (utf8 c.code) code) 0 (suc (code
 -- the same among all 44
 abbrev pub code_place : List ℕ → ℕ
 code_place code = code_place_in currencies code
+
+-- the currency with this code, if it is one
+pub record CodedAt (code : List ℕ) (r : Option CurrencyId) : Type 0 where
+  pub found : (id : CurrencyId) → r ≡ Some id → id.place ≡ code_place code
+  pub none : r ≡ None → 44 ≤ code_place code
 
 -- a code as one number, its first byte the lowest, with a 1 above the last
 abbrev pub code_key : List ℕ → ℕ

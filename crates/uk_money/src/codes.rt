@@ -3,6 +3,7 @@ ghost use Rattle.std.specs.Prelude.{◌≡◌};
 ghost use Rattle.uk_money.specs.Currencies.{currencies};
 ghost use Rattle.uk_money.specs.Rows.{place_by_key};
 
+#[tactic(auto, unfolding(crate::specs::Currencies::currencies, crate::specs::Rows::place_by_key))]
 pub fn place(key: u64) -> usize
     ensures { result ≡ place_by_key currencies key }
 {

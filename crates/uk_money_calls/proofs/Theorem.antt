@@ -11,7 +11,7 @@ use Rattle.base.specs.Claim.{Inverse}
 use Rattle.base.proofs.Closing.{Readable}
 use Rattle.base.proofs.Closing as closing
 use Rattle.settings.specs.Settings.{ukrainian_ranges, within, Within}
-use Rattle.settings.specs.declared.Settings.{Settings}
+use Rattle.settings.specs.Settings.{Settings}
 use Rattle.settings.proofs.Ranges.{in_range, behind_settings}
 use Rattle.figures.specs.Text.{negative}
 use Rattle.figures.specs.Money.{money_formed, whole_of, hundredths_of, money_limit}

@@ -6,7 +6,7 @@ use Rattle.base.specs.Answer.{Spelling, first_of}
 use Rattle.base.specs.Reading.{Reading}
 use Rattle.settings.specs.Settings.{ukrainian_ranges}
 use Rattle.settings.specs.Refused.{out_of_range}
-use Rattle.settings.specs.declared.Settings.{Settings}
+use Rattle.settings.specs.Settings.{Settings}
 use Rattle.figures.specs.Money.{whole_of, hundredths_of}
 use Rattle.figures.specs.Refusals.{amount_refusals}
 use Rattle.figures.specs.Value.{AmountMeans}

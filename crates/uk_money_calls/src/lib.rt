@@ -1,74 +1,60 @@
 #![tactic(auto)]
 // Ukrainian money from bytes to bytes, both ways, and its measure: settings, code, text, sign, size and room are checked in 01's order. No phrase is longer than
 // the room that the program keeps for an answer.
-ghost use Rattle.std.specs.Prelude.{◌≤◌, ◌<◌, ◌≡◌};
+ghost use Rattle.std.specs.Prelude.{◌≤◌, ◌<◌, ◌≡◌, length};
 ghost use Rattle.std.proofs.Math.Option.{some};
-ghost use Rattle.base.specs.Answer.{fitted, replied, Answers};
-ghost use Rattle.base.specs.Measure.{measure_of, measured};
+ghost use Rattle.base.specs.Answer.{replied, Answers};
+ghost use Rattle.base.specs.Refused.{answer_of, measure_in};
+ghost use Rattle.base.specs.Measure.{measured};
 ghost use Rattle.base.specs.Reading.{Reads as ReadsAs};
 ghost use Rattle.base.specs.Room.{phrase_room};
-ghost use Rattle.settings.specs.Settings.{ukrainian_settings, ukrainian_ranges, Within};
+ghost use Rattle.plan.specs.Phrase.{phrase_of};
+ghost use Rattle.plan.specs.Plan.{pieces};
+ghost use Rattle.uk.specs.Pool.{uk_pool};
+ghost use Rattle.settings.specs.Settings.{ukrainian_settings};
+ghost use Rattle.settings.specs.Chosen.{numbers_of};
 ghost use Rattle.figures.specs.Money.{whole_of, hundredths_of};
 ghost use Rattle.figures.specs.Refusals.{amount_refusals, Admitted};
 ghost use Rattle.uk_money.specs.Rows.{currency_at};
 ghost use Rattle.uk_money.specs.Money.{amount_phrase};
 ghost use Rattle.uk_money_calls.specs.MoneyCalls.{uk_to_currency, amount_reading, uk_from_currency};
 
-use base::{Answer, Measure, NO_SENTENCE, WRONG_CODE, WRONG_SETTING};
-use settings::Settings;
-use uk::ORDERS;
-use uk_money::CURRENCIES;
+use base::{Refusal, Size};
+use figures::refusals::judge_amount;
+use groups::Number;
+use plan::Plan;
+use settings::Ukrainian;
+use uk_money::CurrencyId;
 use uk_money_plan::PLAN;
-use uk_money_read::SeenAmount;
 
-// The phrase of an admitted text: planned, measured, written.
-fn spell(settings: Settings, currency: usize, text: &[u8], out: &mut [u8]) -> Answer
-    requires { Within (ukrainian_ranges settings) × (currency < 44) × Admitted (amount_refusals text.now) }
-    ensures answers { Answers result out.old out.new (fitted out.old (amount_phrase settings (currency_at currency) (whole_of text.now) (hundredths_of text.now))) }
-    ensures length_le_phrase_room { result.length ≤ phrase_room }
+// The plan of an admitted text.
+fn plan_text(settings: Ukrainian, currency: CurrencyId, text: &[u8]) -> Plan<PLAN>
+    requires { Admitted (amount_refusals text.now) }
+    ensures { (length result ≤ 50) × (phrase_of (pieces uk_pool result) ≡ amount_phrase (numbers_of settings) (currency_at currency.place) (whole_of text.now) (hundredths_of text.now)) }
 {
     let whole = figures::money::whole_part(text);
-    let zero = figures::is_zero(whole);
-    let digits = figures::after_sign(whole);
-    let gs = groups::groups22(digits);
-    let n = groups::count(digits);
+    let number = Number::of_digits(figures::after_sign(whole));
     let hundredths = figures::value_of(figures::money::hundredths_part(text)) as u32;
-    let mut plan = [0u32; PLAN];
-    let k = uk_money_plan::plan_money(settings, currency, zero, n, &gs, hundredths, &mut plan);
-    uk::speak(&plan, k, out)
+    uk_money_plan::plan_money(settings, currency, &number, hundredths)
 }
 
-// Its measure: planned and measured.
-fn measure(settings: Settings, currency: usize, text: &[u8]) -> Measure
-    requires { Within (ukrainian_ranges settings) × (currency < 44) × Admitted (amount_refusals text.now) }
-    ensures { result ≡ measure_of (amount_phrase settings (currency_at currency) (whole_of text.now) (hundredths_of text.now)) }
+// Any bytes, read under settings for a currency.
+fn read(
+    settings: Ukrainian,
+    currency: CurrencyId,
+    said: &[u8],
+    out: &mut [u8],
+) -> Result<usize, Refusal>
+    ensures { ReadsAs (amount_reading (numbers_of settings) (some (currency_at currency.place))) said.now (answer_of result) out.old out.new }
 {
-    let whole = figures::money::whole_part(text);
-    let zero = figures::is_zero(whole);
-    let digits = figures::after_sign(whole);
-    let gs = groups::groups22(digits);
-    let n = groups::count(digits);
-    let hundredths = figures::value_of(figures::money::hundredths_part(text)) as u32;
-    let mut plan = [0u32; PLAN];
-    let pieces = uk_money_plan::plan_money(settings, currency, zero, n, &gs, hundredths, &mut plan);
-    uk::measure(&plan, pieces)
-}
-
-// Any bytes, read under settings in their ranges for a currency.
-fn read(settings: Settings, currency: usize, said: &[u8], out: &mut [u8]) -> Answer
-    requires { ((amount_reading settings (some (currency_at currency))).refusal ≡ 0) × (currency < 44) }
-    ensures { ReadsAs (amount_reading settings (some (currency_at currency))) said.now result out.old out.new }
-{
-    let mut gs = [0u16; ORDERS];
-    let read = uk_money_read::read_money(settings, currency, said, &mut gs);
-    let seen = read.seen;
-    match seen {
-        SeenAmount::Refused => base::refused(NO_SENTENCE),
-        SeenAmount::Amount(h) => numerals::money::put_money_text(read.orders, &gs, h, out),
+    match uk_money_read::read_money(settings, currency, said) {
+        Some(amount) => numerals::money::put_money_text(&amount.whole, amount.hundredths, out),
+        None => Err(Refusal::NoSentence),
     }
 }
 
 // The phrase of a money text.
+#[tactic(auto, using(settings::proofs::Handed::handed, uk_money::proofs::Coded::found_code, uk_money::proofs::Coded::no_code))]
 pub fn to_currency(
     gender: u32,
     number: u32,
@@ -78,26 +64,18 @@ pub fn to_currency(
     code: &[u8],
     text: &[u8],
     out: &mut [u8],
-) -> Answer
-    ensures answers { Answers result out.old out.new (replied (uk_to_currency (ukrainian_settings gender number case apostrophe style) code.now text.now) out.old) }
-    ensures length_le_phrase_room { result.length ≤ phrase_room }
+) -> Result<usize, Refusal>
+    ensures answers { Answers (answer_of result) out.old out.new (replied (uk_to_currency (ukrainian_settings gender number case apostrophe style) code.now text.now) out.old) }
+    ensures length_le_phrase_room { (answer_of result).length ≤ phrase_room }
 {
-    if settings::is_ukrainian(gender, number, case, apostrophe, style) {
-        let currency = uk_money::code_of(code);
-        if currency < CURRENCIES {
-            let n = figures::refusals::number_of(figures::refusals::judge_amount(text));
-            if n == 0 {
-                let settings = settings::ukrainian(gender, number, case, apostrophe, style);
-                return spell(settings, currency, text, out);
-            }
-            return base::refused(n);
-        }
-        return base::refused(WRONG_CODE);
-    }
-    base::refused(WRONG_SETTING)
+    let settings = Ukrainian::new(gender, number, case, apostrophe, style)?;
+    let currency = uk_money::code_of(code).ok_or(Refusal::WrongCode)?;
+    judge_amount(text)?;
+    uk::speak(plan_text(settings, currency, text).codes(), out)
 }
 
 // What that phrase measures.
+#[tactic(auto, using(settings::proofs::Handed::handed, uk_money::proofs::Coded::found_code, uk_money::proofs::Coded::no_code))]
 pub fn measure_currency(
     gender: u32,
     number: u32,
@@ -106,25 +84,17 @@ pub fn measure_currency(
     style: u32,
     code: &[u8],
     text: &[u8],
-) -> Measure
-    ensures { result ≡ measured (uk_to_currency (ukrainian_settings gender number case apostrophe style) code.now text.now) }
+) -> Result<Size, Refusal>
+    ensures { measure_in result ≡ measured (uk_to_currency (ukrainian_settings gender number case apostrophe style) code.now text.now) }
 {
-    if settings::is_ukrainian(gender, number, case, apostrophe, style) {
-        let currency = uk_money::code_of(code);
-        if currency < CURRENCIES {
-            let n = figures::refusals::number_of(figures::refusals::judge_amount(text));
-            if n == 0 {
-                let settings = settings::ukrainian(gender, number, case, apostrophe, style);
-                return measure(settings, currency, text);
-            }
-            return base::unmeasured(n);
-        }
-        return base::unmeasured(WRONG_CODE);
-    }
-    base::unmeasured(WRONG_SETTING)
+    let settings = Ukrainian::new(gender, number, case, apostrophe, style)?;
+    let currency = uk_money::code_of(code).ok_or(Refusal::WrongCode)?;
+    judge_amount(text)?;
+    Ok(uk::measure(plan_text(settings, currency, text).codes()))
 }
 
 // The money text of an amount.
+#[tactic(auto, using(settings::proofs::Handed::handed, uk_money::proofs::Coded::found_code, uk_money::proofs::Coded::no_code))]
 pub fn from_currency(
     gender: u32,
     number: u32,
@@ -134,16 +104,10 @@ pub fn from_currency(
     code: &[u8],
     said: &[u8],
     out: &mut [u8],
-) -> Answer
-    ensures { ReadsAs (uk_from_currency (ukrainian_settings gender number case apostrophe style) code.now) said.now result out.old out.new }
+) -> Result<usize, Refusal>
+    ensures { ReadsAs (uk_from_currency (ukrainian_settings gender number case apostrophe style) code.now) said.now (answer_of result) out.old out.new }
 {
-    if settings::is_ukrainian(gender, number, case, apostrophe, style) {
-        let currency = uk_money::code_of(code);
-        if currency < CURRENCIES {
-            let settings = settings::ukrainian(gender, number, case, apostrophe, style);
-            return read(settings, currency, said, out);
-        }
-        return base::refused(WRONG_CODE);
-    }
-    base::refused(WRONG_SETTING)
+    let settings = Ukrainian::new(gender, number, case, apostrophe, style)?;
+    let currency = uk_money::code_of(code).ok_or(Refusal::WrongCode)?;
+    read(settings, currency, said, out)
 }

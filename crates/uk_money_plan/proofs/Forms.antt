@@ -1,19 +1,22 @@
 -- The words of names and counts as the code's places and tests have them.
 -- Assumes nothing.
 use Prim.Native.Nat.{ℕ, zero, suc, ◌+◌, ◌*◌, ◌/◌, ◌%◌, ◌<◌}
-use mathlib.Core.Path.{◌≡◌, refl}
+use mathlib.Core.Path.{◌≡◌, refl, sym}
+use mathlib.Core.Bool.{false}
 use mathlib.Core.List.{List, [], ◌∷◌, ◌++◌, append-nil}
 use native.Mathlib.Omega.{arith}
+use borrow.Author.Tests.{ne_eqb}
+use lib.Dec.{eqb}
 use lib.ListN.{get_or, replicate}
 use Rattle.base.specs.Join.{joined}
 use Rattle.base.specs.Utf8.{form2}
-use Rattle.settings.specs.declared.Settings.{Settings}
+use Rattle.settings.specs.Settings.{Settings}
 use Rattle.figures.specs.Groups.{total, Groups}
 use Rattle.groups.specs.Highest.{ZeroFrom}
 use Rattle.words.specs.Part.{part}
 use Rattle.uk.specs.Pool.{uk_pool}
 use Rattle.uk.specs.Ukrainian.{agreed}
-use Rattle.uk_money.specs.Nouns.{adj, endings, Name, agreed_name}
+use Rattle.uk_money.specs.Nouns.{endings, Name, agreed_name}
 use Rattle.uk_money.specs.Currencies.{Currency}
 use Rattle.uk_money.specs.Money.{count_words, amount_words, amount_phrase}
 use Rattle.uk_money.specs.Rows.{class_at, adjective_in, FormAt, Row}
@@ -28,15 +31,6 @@ only_ending s e z = rw (empty s z) refl
 
 pub only_stem : (s e : ℕ) → e ≡ 0 → part uk_pool s ≡ part uk_pool s ++ part uk_pool e
 only_stem s e z = rw (empty e z, append-nil) refl
-
--- the adjective of a name, if it has one
-pub no_adjective : (S : Settings) (a : ℕ) → a ≡ 0 → [] ≡ adjective_in S a
-no_adjective S a e = rw e refl
-
-pub adjective_is : (S : Settings) (p a e : ℕ) → FormAt S p → (a ≡ 0 → ⊥) → part uk_pool e ≡ form2 (endings adj) (p / 6) (p % 6)
-    → (part uk_pool a ++ part uk_pool e) ∷ [] ≡ adjective_in S a
-adjective_is S p zero e s n f = absurd (n refl)
-adjective_is S p (suc a) e s n f = rw (f, s.number_is, s.case_is) refl
 
 -- a name as it agrees with n, from the adjective and the noun of its row, in the form that stands at p
 pub name_is : (S : Settings) (name : Name) (row : List ℕ) → Row name row → (n p e : ℕ) → FormAt (agreed (n / 10 % 10) (n % 10) S) p
@@ -71,8 +65,11 @@ one_order h (suc i) l = zeros_are 21 i
 pub one_group : (h : ℕ) → h < 100 → Groups (h ∷ replicate 21 0)
 one_group h l = (omega arith, zero_groups 21)
 
-pub one_total : (h : ℕ) → total (h ∷ replicate 21 0) ≡ h
+one_total : (h : ℕ) → total (h ∷ replicate 21 0) ≡ h
 one_total h = omega arith
+
+pub one_some : (h : ℕ) → 0 < h → false ≡ eqb (total (h ∷ replicate 21 0)) 0
+one_some h l = rw (one_total h) (sym (ne_eqb h 0 (λ e. omega arith)))
 
 -- the cases of an amount
 pub whole_is_lem : (S : Settings) (c : Currency) (n h : ℕ) → h ≡ 0 → joined (count_words S c.main n) ≡ amount_phrase S c n h

@@ -1,6 +1,5 @@
 pub mod Limit
 pub mod Behind
 pub mod Quiet
-pub mod Found
 pub mod Made
 pub mod Answers

@@ -7,12 +7,12 @@ use mathlib.Core.List.{List}
 use native.Mathlib.Omega.{arith}
 use borrow.Author.Tests.{le-leb, lt-leb, leb-true, leb-false, ltb-true, ltb-false}
 use lib.Dec.{ltb, leb}
-use lib.ListN.{length, get_or, drop}
+use lib.ListN.{get_or, drop}
 use lib.Seq.{get_or-drop}
-use Rattle.figures.specs.Groups.{total, Groups}
+use Rattle.figures.specs.Groups.{total}
 use Rattle.figures.specs.Money.{money_limit}
 use Rattle.figures.proofs.Laws.Groups.{group_lt}
-use Rattle.groups.specs.Highest.{Highest}
+use Rattle.groups.specs.declared.number.Number.{Number}
 use Rattle.groups.proofs.Highest.{total_seven, total_none, none_total}
 
 -- a test that agrees with one of the limit
@@ -31,30 +31,33 @@ by_most a b n l f g = go (leb a b) refl
     go false e = sym (lt-leb n l (g (leb-false a b e)))
 
 -- by the seven lowest groups and what is above them
-module _ (gs : List ℕ) (z : length gs ≡ 22) (g : Groups gs) (n : ℕ) (t : Highest gs n) where
+module _ (number : Number 22) where
+  abbrev gs : List ℕ
+  gs = number.groups
+
   -- three groups, the lowest of order i
   abbrev nine_at : ℕ → ℕ
   nine_at i = get_or gs (i + 2) 0 * 1000000 + get_or gs (i + 1) 0 * 1000 + get_or gs i 0
 
   nine_lt : (i : ℕ) → i < 20 → nine_at i < 1000000000
-  nine_lt i h = omega (arith, group_lt gs i g (omega arith), group_lt gs (i + 1) g (omega arith), group_lt gs (i + 2) g (omega arith))
+  nine_lt i h = omega (arith, group_lt gs i number.small (omega (arith, number.size)), group_lt gs (i + 1) number.small (omega (arith, number.size)), group_lt gs (i + 2) number.small (omega (arith, number.size)))
 
   parts : total gs ≡ nine_at 0 + 1000000000 * nine_at 3 + 1000000000000000000 * (get_or gs 6 0 + 1000 * total (drop 7 gs))
-  parts = omega (arith, total_seven gs (omega arith))
+  parts = omega (arith, total_seven gs (omega (arith, number.size)))
 
-  pub above : 7 < n → false ≡ leb (total gs) money_limit
+  pub above : 7 < number.orders → false ≡ leb (total gs) money_limit
   above h =
-      let some : (total (drop 7 gs) ≡ 0 → ⊥) = λ e. t.some (omega arith) (last e) in
+      let some : (total (drop 7 gs) ≡ 0 → ⊥) = λ e. number.highest.some (omega arith) (last e) in
       sym (lt-leb (total gs) money_limit (omega (arith, parts, some)))
     where
-      last : total (drop 7 gs) ≡ 0 → get_or gs (n - 1) 0 ≡ 0
+      last : total (drop 7 gs) ≡ 0 → get_or gs (number.orders - 1) 0 ≡ 0
       last e =
-          let i : 7 + (n - 8) ≡ n - 1 = omega arith in
-          rw (← i, ← get_or-drop 7 gs (n - 8) 0) (none_total (drop 7 gs) e (n - 8) (omega arith))
+          let i : 7 + (number.orders - 8) ≡ number.orders - 1 = omega arith in
+          rw (← i, ← get_or-drop 7 gs (number.orders - 8) 0) (none_total (drop 7 gs) e (number.orders - 8) (omega arith))
 
-  module _ (h : n ≤ 7) where
+  module _ (h : number.orders ≤ 7) where
     none : total (drop 7 gs) ≡ 0
-    none = total_none (drop 7 gs) (λ i l. get_or-drop 7 gs i 0 ∙ t.zeros (7 + i) (omega arith))
+    none = total_none (drop 7 gs) (λ i l. get_or-drop 7 gs i 0 ∙ number.highest.zeros (7 + i) (omega arith))
 
     pub by_high : (get_or gs 6 0 ≡ 18 → ⊥) → ltb (get_or gs 6 0) 18 ≡ leb (total gs) money_limit
     by_high d =

@@ -13,7 +13,7 @@ use Rattle.figures.specs.Groups.{total}
 use Rattle.tokens.specs.Tokens.{split}
 use Rattle.tokens.proofs.Words.{Separable, split_joined}
 use Rattle.settings.specs.Settings.{ukrainian_ranges, Within, in_gender}
-use Rattle.settings.specs.declared.Settings.{Settings}
+use Rattle.settings.specs.Settings.{Settings}
 use Rattle.cardinals.specs.Grammar.{Sentence, nought, unmarked, marked}
 use Rattle.uk.specs.Ukrainian.{ukrainian, agreed}
 use Rattle.uk.proofs.Laws.{gendered, agrees}

@@ -10,7 +10,7 @@ use lib.Dec.{eqb}
 use Rattle.base.specs.Join.{Word}
 use Rattle.base.specs.Utf8.{form2}
 use Rattle.settings.specs.Settings.{ukrainian_ranges, Within}
-use Rattle.settings.specs.declared.Settings.{Settings}
+use Rattle.settings.specs.Settings.{Settings}
 use Rattle.tables.proofs.Tests.{and_left, and_right, all, all_at, clash}
 use Rattle.tokens.specs.Tokens.{full_key, key}
 use Rattle.tokens.proofs.Words.{is_word, Separable}

@@ -11,8 +11,7 @@ use lib.IntN.{ℤ, nat_abs}
 use Rattle.base.specs.Replaced.{apostrophe_lead}
 use Rattle.base.specs.Utf8.{utf8}
 use Rattle.base.proofs.Replaced.{Turns, Stays, WordsTurn, none, word, chosen, plain1?, plain2?, nothing, followed, other, plain, at1, at2, one, words_append, flat_turns}
-use Rattle.settings.specs.Settings.{masculine, singular, in_gender}
-use Rattle.settings.specs.declared.Settings.{Settings}
+use Rattle.settings.specs.Settings.{masculine, singular, in_gender, Settings}
 use Rattle.figures.specs.Text.{digits, value}
 use Rattle.figures.proofs.Laws.Digits.{digit_high, digits_head, digits_tail}
 use Rattle.cardinals.specs.Cardinal.{group_at}

@@ -1,6 +1,5 @@
 pub mod Listed
 pub mod Tables
-pub mod Cased
 pub mod Words
 pub mod Apostrophes
 pub mod Compound

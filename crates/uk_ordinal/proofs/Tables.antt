@@ -5,6 +5,12 @@ use mathlib.Core.Path.{◌≡◌, refl}
 use mathlib.Core.List.{[]}
 use lib.ListN.{get_or}
 use Rattle.base.specs.Utf8.{utf8, form1, form2}
+use Rattle.settings.specs.Chosen.{gender_number, grammatical_number, case_number, apostrophe_number}
+use Rattle.settings.specs.declared.ukrainian.Gender.{Gender}
+use Rattle.settings.specs.declared.ukrainian.Number.{Number}
+use Rattle.settings.specs.declared.ukrainian.Case.{Case}
+use Rattle.settings.specs.declared.ukrainian.Apostrophe.{Apostrophe}
+use Rattle.settings.proofs.Chosen.{gender_index, number_index, case_index, apostrophe_index, gender_index_lem, number_index_lem, case_index_lem, apostrophe_index_lem}
 use Rattle.words.specs.Part.{part}
 use Rattle.words.proofs.Tables.{at1, at2}
 use Rattle.uk.specs.Apostrophes.{by_apostrophe1}
@@ -37,42 +43,46 @@ pub era_at : part uk_pool places.our_era ≡ utf8 "н.е."
 unfolding part uk_pool
 era_at = refl
 
-pub unit_at : (a i : ℕ) → part uk_pool (get_or (get_or places.ordinal_unit_bases a []) i 0) ≡ form2 (by_apostrophe1 words.ordinal_unit_bases) a i
+pub unit_at : (sign : Apostrophe) (i : ℕ) → part uk_pool (get_or (get_or places.ordinal_unit_bases (apostrophe_index sign) []) i 0) ≡ form2 (by_apostrophe1 words.ordinal_unit_bases) (apostrophe_number sign) i
 unfolding part uk_pool by_apostrophe1 words.ordinal_unit_bases
-unit_at = at2 uk_pool places.ordinal_unit_bases (by_apostrophe1 words.ordinal_unit_bases) refl
+unit_at sign i = rw (apostrophe_index_lem sign) (at2 uk_pool places.ordinal_unit_bases (by_apostrophe1 words.ordinal_unit_bases) refl (apostrophe_number sign) i)
 
-pub ten_at : (a i : ℕ) → part uk_pool (get_or (get_or places.ordinal_tens_bases a []) i 0) ≡ form2 (by_apostrophe1 words.ordinal_tens_bases) a i
+pub ten_at : (sign : Apostrophe) (i : ℕ) → part uk_pool (get_or (get_or places.ordinal_tens_bases (apostrophe_index sign) []) i 0) ≡ form2 (by_apostrophe1 words.ordinal_tens_bases) (apostrophe_number sign) i
 unfolding part uk_pool by_apostrophe1 words.ordinal_tens_bases
-ten_at = at2 uk_pool places.ordinal_tens_bases (by_apostrophe1 words.ordinal_tens_bases) refl
+ten_at sign i = rw (apostrophe_index_lem sign) (at2 uk_pool places.ordinal_tens_bases (by_apostrophe1 words.ordinal_tens_bases) refl (apostrophe_number sign) i)
 
-pub hard_at : (i j : ℕ) → part uk_pool (get_or (get_or places.adjective_hard_flexions_singular i []) j 0) ≡ form2 words.adjective_hard_flexions_singular i j
+pub hard_at : (gender : Gender) (case : Case)
+    → part uk_pool (get_or (get_or places.adjective_hard_flexions_singular (gender_index gender) []) (case_index case) 0) ≡ form2 words.adjective_hard_flexions_singular (gender_number gender) (case_number case)
 unfolding part uk_pool words.adjective_hard_flexions_singular
-hard_at = at2 uk_pool places.adjective_hard_flexions_singular words.adjective_hard_flexions_singular refl
+hard_at gender case = rw (gender_index_lem gender, case_index_lem case) (at2 uk_pool places.adjective_hard_flexions_singular words.adjective_hard_flexions_singular refl (gender_number gender) (case_number case))
 
-pub hard_plural_at : (i : ℕ) → part uk_pool (get_or places.adjective_hard_flexions_plural i 0) ≡ form1 words.adjective_hard_flexions_plural i
+pub hard_plural_at : (case : Case) → part uk_pool (get_or places.adjective_hard_flexions_plural (case_index case) 0) ≡ form1 words.adjective_hard_flexions_plural (case_number case)
 unfolding part uk_pool words.adjective_hard_flexions_plural
-hard_plural_at = at1 uk_pool places.adjective_hard_flexions_plural words.adjective_hard_flexions_plural refl
+hard_plural_at case = rw (case_index_lem case) (at1 uk_pool places.adjective_hard_flexions_plural words.adjective_hard_flexions_plural refl (case_number case))
 
-pub soft_at : (i j : ℕ) → part uk_pool (get_or (get_or places.adjective_soft_flexions_singular i []) j 0) ≡ form2 words.adjective_soft_flexions_singular i j
+pub soft_at : (gender : Gender) (case : Case)
+    → part uk_pool (get_or (get_or places.adjective_soft_flexions_singular (gender_index gender) []) (case_index case) 0) ≡ form2 words.adjective_soft_flexions_singular (gender_number gender) (case_number case)
 unfolding part uk_pool words.adjective_soft_flexions_singular
-soft_at = at2 uk_pool places.adjective_soft_flexions_singular words.adjective_soft_flexions_singular refl
+soft_at gender case = rw (gender_index_lem gender, case_index_lem case) (at2 uk_pool places.adjective_soft_flexions_singular words.adjective_soft_flexions_singular refl (gender_number gender) (case_number case))
 
-pub soft_plural_at : (i : ℕ) → part uk_pool (get_or places.adjective_soft_flexions_plural i 0) ≡ form1 words.adjective_soft_flexions_plural i
+pub soft_plural_at : (case : Case) → part uk_pool (get_or places.adjective_soft_flexions_plural (case_index case) 0) ≡ form1 words.adjective_soft_flexions_plural (case_number case)
 unfolding part uk_pool words.adjective_soft_flexions_plural
-soft_plural_at = at1 uk_pool places.adjective_soft_flexions_plural words.adjective_soft_flexions_plural refl
+soft_plural_at case = rw (case_index_lem case) (at1 uk_pool places.adjective_soft_flexions_plural words.adjective_soft_flexions_plural refl (case_number case))
 
-pub short_hard_at : (i j : ℕ) → part short_pool (get_or (get_or places.ordinal_hard_flexions_singular_short i []) j 0) ≡ form2 words.ordinal_hard_flexions_singular_short i j
+pub short_hard_at : (gender : Gender) (case : Case)
+    → part short_pool (get_or (get_or places.ordinal_hard_flexions_singular_short (gender_index gender) []) (case_index case) 0) ≡ form2 words.ordinal_hard_flexions_singular_short (gender_number gender) (case_number case)
 unfolding part short_pool words.ordinal_hard_flexions_singular_short
-short_hard_at = at2 short_pool places.ordinal_hard_flexions_singular_short words.ordinal_hard_flexions_singular_short refl
+short_hard_at gender case = rw (gender_index_lem gender, case_index_lem case) (at2 short_pool places.ordinal_hard_flexions_singular_short words.ordinal_hard_flexions_singular_short refl (gender_number gender) (case_number case))
 
-pub short_soft_at : (i j : ℕ) → part short_pool (get_or (get_or places.ordinal_soft_flexions_singular_short i []) j 0) ≡ form2 words.ordinal_soft_flexions_singular_short i j
+pub short_soft_at : (gender : Gender) (case : Case)
+    → part short_pool (get_or (get_or places.ordinal_soft_flexions_singular_short (gender_index gender) []) (case_index case) 0) ≡ form2 words.ordinal_soft_flexions_singular_short (gender_number gender) (case_number case)
 unfolding part short_pool words.ordinal_soft_flexions_singular_short
-short_soft_at = at2 short_pool places.ordinal_soft_flexions_singular_short words.ordinal_soft_flexions_singular_short refl
+short_soft_at gender case = rw (gender_index_lem gender, case_index_lem case) (at2 short_pool places.ordinal_soft_flexions_singular_short words.ordinal_soft_flexions_singular_short refl (gender_number gender) (case_number case))
 
-pub short_plural_at : (i : ℕ) → part short_pool (get_or places.ordinal_flexions_plural_short i 0) ≡ form1 words.ordinal_flexions_plural_short i
+pub short_plural_at : (case : Case) → part short_pool (get_or places.ordinal_flexions_plural_short (case_index case) 0) ≡ form1 words.ordinal_flexions_plural_short (case_number case)
 unfolding part short_pool words.ordinal_flexions_plural_short
-short_plural_at = at1 short_pool places.ordinal_flexions_plural_short words.ordinal_flexions_plural_short refl
+short_plural_at case = rw (case_index_lem case) (at1 short_pool places.ordinal_flexions_plural_short words.ordinal_flexions_plural_short refl (case_number case))
 
-pub year_at : (i j : ℕ) → part uk_pool (get_or (get_or places.year i []) j 0) ≡ form2 words.year i j
+pub year_at : (number : Number) (case : Case) → part uk_pool (get_or (get_or places.year (number_index number) []) (case_index case) 0) ≡ form2 words.year (grammatical_number number) (case_number case)
 unfolding part uk_pool words.year
-year_at = at2 uk_pool places.year words.year refl
+year_at number case = rw (number_index_lem number, case_index_lem case) (at2 uk_pool places.year words.year refl (grammatical_number number) (case_number case))

@@ -14,8 +14,7 @@ use Rattle.base.specs.Join.{Word}
 use Rattle.base.specs.Signs.{space}
 use Rattle.base.specs.Utf8.{utf8, form1, form2}
 use Rattle.base.proofs.Words.{tested, Solid, Trails, next_runs, followed, Solids, SomeSolid, one_solid, some_append, flat_solid, either, at1, at2}
-use Rattle.settings.specs.Settings.{masculine, singular, ukrainian_ranges, Within, in_gender}
-use Rattle.settings.specs.declared.Settings.{Settings}
+use Rattle.settings.specs.Settings.{masculine, singular, ukrainian_ranges, Within, in_gender, Settings}
 use Rattle.figures.specs.Text.{digit, digits, value}
 use Rattle.figures.proofs.Laws.Digits.{digit_low, digits_head, digits_tail}
 use Rattle.cardinals.specs.Cardinal.{group_at, groups_below}

@@ -3,8 +3,7 @@
 use Rattle.std.specs.Prelude.{ℕ, Bool, true, false, cond, List, ◌++◌, eqb}
 use Rattle.base.specs.Join.{Word}
 use Rattle.base.specs.Utf8.{utf8, form1, form2}
-use Rattle.settings.specs.Settings.{singular}
-use Rattle.settings.specs.declared.Settings.{Settings}
+use Rattle.settings.specs.Settings.{singular, Settings}
 use Rattle.figures.specs.Text.{value}
 use Rattle.uk_ordinal.specs.OrdinalTables.{ordinal_hard_flexions_singular_short, ordinal_soft_flexions_singular_short, ordinal_flexions_plural_short}
 use Rattle.uk_ordinal.specs.Ordinal.{soft}

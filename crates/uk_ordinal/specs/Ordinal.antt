@@ -4,8 +4,7 @@ use Rattle.std.specs.Prelude.{ℕ, zero, suc, ◌-◌, ◌*◌, ◌/◌, ◌%◌
 use mathlib.Core.List.{List, [], ◌∷◌, ◌++◌, flatten}
 use Rattle.base.specs.Join.{Word}
 use Rattle.base.specs.Utf8.{utf8, form1, form2}
-use Rattle.settings.specs.Settings.{masculine, singular, nominative, genitive, school_style, in_gender, in_case}
-use Rattle.settings.specs.declared.Settings.{Settings}
+use Rattle.settings.specs.Settings.{masculine, singular, nominative, genitive, school_style, in_gender, in_case, Settings}
 use Rattle.cardinals.specs.Cardinal.{group_at, groups_below}
 use Rattle.uk.specs.UkTables.{teens_bases, mega_bases}
 use Rattle.uk.specs.Apostrophes.{with_apostrophe, by_apostrophe1, sign_at}

@@ -3,8 +3,7 @@
 use Rattle.std.specs.Prelude.{zero, suc, Bool, true, false, List, [], ◌∷◌, ◌++◌, ℤ, pos, negsuc, nat_abs}
 use Rattle.base.specs.Join.{Word}
 use Rattle.base.specs.Utf8.{utf8, form2}
-use Rattle.settings.specs.Settings.{masculine, in_gender}
-use Rattle.settings.specs.declared.Settings.{Settings}
+use Rattle.settings.specs.Settings.{masculine, in_gender, Settings}
 use Rattle.uk_ordinal.specs.OrdinalTables.{year}
 use Rattle.uk_ordinal.specs.Ordinal.{ordinal_words}
 

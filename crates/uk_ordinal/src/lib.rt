@@ -8,7 +8,7 @@ ghost use Rattle.std.specs.Prelude.{◌≡◌, true, false, cond, ◌&&◌, ◌-
 ghost use Rattle.base.specs.Buffer.{over};
 ghost use Rattle.base.specs.Utf8.{utf8, form2};
 ghost use Rattle.words.specs.Part.{part};
-ghost use Rattle.settings.specs.Settings.{ukrainian_ranges, Within};
+ghost use Rattle.settings.specs.Chosen.{numbers_of};
 ghost use Rattle.uk.specs.Apostrophes.{by_apostrophe1};
 ghost use Rattle.uk.specs.Pool.{uk_pool};
 ghost use Rattle.uk_ordinal.specs.Pool.{short_pool};
@@ -17,7 +17,7 @@ ghost use Rattle.uk_ordinal.specs.Ordinal.{soft as soft_of, flexion, school as s
 ghost use Rattle.uk_ordinal.specs.Year.{year_noun};
 ghost use Rattle.uk_ordinal.specs.DigitOrdinal.{short_flexion};
 
-use settings::{GENITIVE, MASCULINE, NOMINATIVE, SCHOOL_STYLE, SINGULAR, Settings};
+use settings::{Case, Gender, Number, Style, Ukrainian};
 
 // The digit of the hundreds and that of the tens that are nominative in a compound of school: сто and девʼяносто.
 const NOMINATIVE_HUNDRED: usize = 1;
@@ -25,18 +25,21 @@ const NOMINATIVE_HUNDRED: usize = 1;
 const NOMINATIVE_TEN: usize = 9;
 
 // The base of zero, of 1 in a compound, and of a round hundred.
+#[tactic(auto, using(crate::proofs::Tables::zero_at))]
 pub fn zero_base() -> u16
     ensures { part uk_pool result ≡ utf8 ordinal_zero_base }
 {
     places::ORDINAL_ZERO_BASE
 }
 
+#[tactic(auto, using(crate::proofs::Tables::one_at))]
 pub fn one_base() -> u16
     ensures { part uk_pool result ≡ utf8 one_base }
 {
     places::ONE_BASE
 }
 
+#[tactic(auto, using(crate::proofs::Tables::hundred_at))]
 pub fn hundred_base() -> u16
     ensures { part uk_pool result ≡ utf8 hundred_base }
 {
@@ -44,6 +47,7 @@ pub fn hundred_base() -> u16
 }
 
 // What makes an adjective of a scale noun.
+#[tactic(auto, using(crate::proofs::Tables::adjective_at))]
 pub fn adjective_n() -> u16
     ensures { part uk_pool result ≡ utf8 "н" }
 {
@@ -51,12 +55,14 @@ pub fn adjective_n() -> u16
 }
 
 // The two words of the years before our era.
+#[tactic(auto, using(crate::proofs::Tables::before_at))]
 pub fn before_era() -> u16
     ensures { part uk_pool result ≡ utf8 "до" }
 {
     places::BEFORE_ERA
 }
 
+#[tactic(auto, using(crate::proofs::Tables::era_at))]
 pub fn our_era() -> u16
     ensures { part uk_pool result ≡ utf8 "н.е." }
 {
@@ -64,54 +70,57 @@ pub fn our_era() -> u16
 }
 
 // The settings of the words before the one that carries the ending.
-pub fn in_nominative(settings: Settings) -> Settings
-    requires { Within (ukrainian_ranges settings) }
-    ensures { (result ≡ in_nominative settings) × Within (ukrainian_ranges result) }
+pub fn in_nominative(settings: Ukrainian) -> Ukrainian
+    ensures { numbers_of result ≡ in_nominative (numbers_of settings) }
 {
-    let form = settings::in_form(settings.number, NOMINATIVE, settings);
-    settings::in_gender(MASCULINE, form)
+    Ukrainian {
+        gender: Gender::Masculine,
+        case: Case::Nominative,
+        ..settings
+    }
 }
 
 // The settings of the words of a compound.
-pub fn in_genitive(settings: Settings) -> Settings
-    requires { Within (ukrainian_ranges settings) }
-    ensures { (result ≡ in_genitive settings) × Within (ukrainian_ranges result) }
+pub fn in_genitive(settings: Ukrainian) -> Ukrainian
+    ensures { numbers_of result ≡ in_genitive (numbers_of settings) }
 {
-    let form = settings::in_form(settings.number, GENITIVE, settings);
-    settings::in_gender(MASCULINE, form)
+    Ukrainian {
+        gender: Gender::Masculine,
+        case: Case::Genitive,
+        ..settings
+    }
 }
 
 // Whether the settings ask for ordinals as taught in school.
-pub fn is_school(settings: Settings) -> bool
-    ensures { result ≡ school_of settings }
+pub fn is_school(settings: Ukrainian) -> bool
+    ensures { result ≡ school_of (numbers_of settings) }
 {
-    settings.style == SCHOOL_STYLE
+    settings.style == Style::School
 }
 
 // The settings of a compound's word for a digit: in school one digit of the hundreds and one of the tens is nominative there.
-fn in_compound(settings: Settings, digit: usize, nominative: usize) -> Settings
-    requires { Within (ukrainian_ranges settings) }
-    ensures { (result ≡ cond (school_of settings && eqb digit nominative) (in_nominative settings) (in_genitive settings)) × Within (ukrainian_ranges result) }
+fn in_compound(settings: Ukrainian, digit: usize, nominative: usize) -> Ukrainian
+    ensures { let S = numbers_of settings in numbers_of result ≡ cond (school_of S && eqb digit nominative) (in_nominative S) (in_genitive S) }
 {
-    if is_school(settings) {
-        if digit == nominative {
-            return in_nominative(settings);
-        }
+    if is_school(settings) && digit == nominative {
+        return in_nominative(settings);
     }
     in_genitive(settings)
 }
 
 // The word of a hundreds digit in a compound, and of a tens digit above 1.
-pub fn compound_hundred(settings: Settings, h: usize) -> u16
-    requires { Within (ukrainian_ranges settings) × (0 < h) × (h < 10) }
-    ensures { part uk_pool result ≡ (compound_digits settings).hundred h }
+#[tactic(auto, using(crate::proofs::Compound::hundred_word))]
+pub fn compound_hundred(settings: Ukrainian, h: usize) -> u16
+    requires { (0 < h) × (h < 10) }
+    ensures { part uk_pool result ≡ (compound_digits (numbers_of settings)).hundred h }
 {
     uk::hundred(in_compound(settings, h, NOMINATIVE_HUNDRED), h)
 }
 
-pub fn compound_ten(settings: Settings, t: usize) -> u16
-    requires { Within (ukrainian_ranges settings) × (1 < t) × (t < 10) }
-    ensures { part uk_pool result ≡ (compound_digits settings).ten t }
+#[tactic(auto, using(crate::proofs::Compound::ten_word_lem))]
+pub fn compound_ten(settings: Ukrainian, t: usize) -> u16
+    requires { (1 < t) × (t < 10) }
+    ensures { part uk_pool result ≡ (compound_digits (numbers_of settings)).ten t }
 {
     uk::ten(in_compound(settings, t, NOMINATIVE_TEN), t)
 }
@@ -120,63 +129,64 @@ pub fn compound_ten(settings: Settings, t: usize) -> u16
 pub fn is_soft(n: u16) -> bool
     ensures { result ≡ soft_of n }
 {
-    if n % 10 == 3 { n % 100 != 13 } else { false }
+    n % 10 == 3 && n % 100 != 13
 }
 
 // A hard ending.
-fn hard_ending(settings: Settings) -> u16
-    requires { Within (ukrainian_ranges settings) }
-    ensures { part uk_pool result ≡ flexion settings false }
+#[tactic(auto, using(crate::proofs::Tables::hard_at, crate::proofs::Tables::hard_plural_at), unfolding(crate::specs::Ordinal::flexion))]
+fn hard_ending(settings: Ukrainian) -> u16
+    ensures { part uk_pool result ≡ flexion (numbers_of settings) false }
 {
     let case = settings.case as usize;
-    let gender = settings.gender as usize;
-    if settings.number == SINGULAR {
-        return places::ADJECTIVE_HARD_FLEXIONS_SINGULAR[gender][case];
+    match settings.number {
+        Number::Singular => {
+            places::ADJECTIVE_HARD_FLEXIONS_SINGULAR[settings.gender as usize][case]
+        }
+        Number::Plural => places::ADJECTIVE_HARD_FLEXIONS_PLURAL[case],
     }
-    places::ADJECTIVE_HARD_FLEXIONS_PLURAL[case]
 }
 
 // A soft ending.
-fn soft_ending(settings: Settings) -> u16
-    requires { Within (ukrainian_ranges settings) }
-    ensures { part uk_pool result ≡ flexion settings true }
+#[tactic(auto, using(crate::proofs::Tables::soft_at, crate::proofs::Tables::soft_plural_at), unfolding(crate::specs::Ordinal::flexion))]
+fn soft_ending(settings: Ukrainian) -> u16
+    ensures { part uk_pool result ≡ flexion (numbers_of settings) true }
 {
     let case = settings.case as usize;
-    let gender = settings.gender as usize;
-    if settings.number == SINGULAR {
-        return places::ADJECTIVE_SOFT_FLEXIONS_SINGULAR[gender][case];
+    match settings.number {
+        Number::Singular => {
+            places::ADJECTIVE_SOFT_FLEXIONS_SINGULAR[settings.gender as usize][case]
+        }
+        Number::Plural => places::ADJECTIVE_SOFT_FLEXIONS_PLURAL[case],
     }
-    places::ADJECTIVE_SOFT_FLEXIONS_PLURAL[case]
 }
 
 // The ending of an ordinal.
-pub fn ending(settings: Settings, soft: bool) -> u16
-    requires { Within (ukrainian_ranges settings) }
-    ensures { part uk_pool result ≡ flexion settings soft }
+pub fn ending(settings: Ukrainian, soft: bool) -> u16
+    ensures { part uk_pool result ≡ flexion (numbers_of settings) soft }
 {
     if soft {
-        return soft_ending(settings);
+        soft_ending(settings)
+    } else {
+        hard_ending(settings)
     }
-    hard_ending(settings)
 }
 
 // The ending of a digit ordinal: a place in the pool of these endings.
-pub fn short_ending(settings: Settings, soft: bool) -> u16
-    requires { Within (ukrainian_ranges settings) }
-    ensures { part short_pool result ≡ short_flexion settings soft }
+#[tactic(auto, using(crate::proofs::Tables::short_hard_at, crate::proofs::Tables::short_soft_at, crate::proofs::Tables::short_plural_at), unfolding(crate::specs::DigitOrdinal::short_flexion))]
+pub fn short_ending(settings: Ukrainian, soft: bool) -> u16
+    ensures { part short_pool result ≡ short_flexion (numbers_of settings) soft }
 {
     let case = settings.case as usize;
     let gender = settings.gender as usize;
-    if settings.number == SINGULAR {
-        if soft {
-            return places::ORDINAL_SOFT_FLEXIONS_SINGULAR_SHORT[gender][case];
-        }
-        return places::ORDINAL_HARD_FLEXIONS_SINGULAR_SHORT[gender][case];
+    match settings.number {
+        Number::Singular if soft => places::ORDINAL_SOFT_FLEXIONS_SINGULAR_SHORT[gender][case],
+        Number::Singular => places::ORDINAL_HARD_FLEXIONS_SINGULAR_SHORT[gender][case],
+        Number::Plural => places::ORDINAL_FLEXIONS_PLURAL_SHORT[case],
     }
-    places::ORDINAL_FLEXIONS_PLURAL_SHORT[case]
 }
 
 // Those endings.
+#[tactic(auto, unfolding(crate::specs::Pool::short_pool))]
 fn texts() -> [u8; pool::SIZE]
     ensures { result ≡ short_pool }
 {
@@ -188,7 +198,7 @@ pub fn short_len(place: u16) -> usize
     ensures { (result ≡ length (part short_pool place)) × (result < 40) }
 {
     let lent = texts();
-    words::len(&lent, place as u32)
+    words::len(&lent, u32::from(place))
 }
 
 // Writes one over the front of out.
@@ -197,32 +207,32 @@ pub fn put_short(place: u16, out: &mut [u8]) -> usize
     ensures { (result ≡ length (part short_pool place)) × (out.new ≡ over out.old (part short_pool place)) }
 {
     let lent = texts();
-    words::put(&lent, place as u32, out)
+    words::put(&lent, u32::from(place), out)
 }
 
 // The years' noun.
-pub fn year_word(settings: Settings) -> u16
-    requires { Within (ukrainian_ranges settings) }
-    ensures { part uk_pool result ≡ year_noun settings }
+#[tactic(auto, using(crate::proofs::Tables::year_at), unfolding(crate::specs::Year::year_noun))]
+pub fn year_word(settings: Ukrainian) -> u16
+    ensures { part uk_pool result ≡ year_noun (numbers_of settings) }
 {
-    let case = settings.case as usize;
-    let i = settings.number as usize;
-    places::YEAR[i][case]
+    places::YEAR[settings.number as usize][settings.case as usize]
 }
 
 // The base of a unit.
-pub fn unit_base(settings: Settings, u: usize) -> u16
-    requires { Within (ukrainian_ranges settings) × (0 < u) × (u < 10) }
-    ensures { part uk_pool result ≡ form2 (by_apostrophe1 ordinal_unit_bases) settings.apostrophe (u - 1) }
+#[tactic(auto, using(crate::proofs::Tables::unit_at))]
+pub fn unit_base(settings: Ukrainian, u: usize) -> u16
+    requires { (0 < u) × (u < 10) }
+    ensures { part uk_pool result ≡ form2 (by_apostrophe1 ordinal_unit_bases) (numbers_of settings).apostrophe (u - 1) }
 {
     let apostrophe = settings.apostrophe as usize;
     places::ORDINAL_UNIT_BASES[apostrophe][u - 1]
 }
 
 // The base of tens from 20 on.
-pub fn ten_base(settings: Settings, t: usize) -> u16
-    requires { Within (ukrainian_ranges settings) × (1 < t) × (t < 10) }
-    ensures { part uk_pool result ≡ form2 (by_apostrophe1 ordinal_tens_bases) settings.apostrophe (t - 1) }
+#[tactic(auto, using(crate::proofs::Tables::ten_at))]
+pub fn ten_base(settings: Ukrainian, t: usize) -> u16
+    requires { (1 < t) × (t < 10) }
+    ensures { part uk_pool result ≡ form2 (by_apostrophe1 ordinal_tens_bases) (numbers_of settings).apostrophe (t - 1) }
 {
     let apostrophe = settings.apostrophe as usize;
     places::ORDINAL_TENS_BASES[apostrophe][t - 1]

@@ -1,28 +1,23 @@
 -- What a refusal of 0 tells of a text; early years.
 -- Assumes nothing.
-use Prim.Native.Nat.{ℕ, zero, suc, ◌^◌, ◌≤◌, ◌<◌}
+use Prim.Native.Nat.{ℕ, ◌≤◌, ◌<◌}
 use mathlib.Core.Path.{◌≡◌, refl, sym, ap, ◌∙◌}
 use mathlib.Core.Bool.{Bool, true, false}
 use mathlib.Core.List.{List, ◌∷◌, ◌++◌}
 use native.Mathlib.Omega.{arith}
 use native.Mathlib.Nat.{lt_of_le_of_lt}
-use borrow.Author.Tests.{lt-leb}
 use lib.Dec.{lit<}
-use lib.IntN.{ℤ, pos, negsuc, nat_abs}
+use lib.IntN.{ℤ, nat_abs}
 use lib.ListN.{length}
-use lib.Signed.{le_z}
-use mir.Syntax.{w64}
-use mir.Val.{SFits, to_z, of_z}
-use mir.Facts.{to_z-of_z}
+use Rattle.std.proofs.lemmas.Grind.{common_steps}
+use Rattle.std.proofs.lemmas.Int.{to_z-of_z}
 use Rattle.base.specs.Join.{joined}
 use Rattle.settings.specs.Settings.{masculine, in_gender, within}
-use Rattle.settings.specs.declared.Settings.{Settings}
+use Rattle.settings.specs.Settings.{Settings}
 use Rattle.figures.specs.Text.{digits, plain, value, well_formed, negative, unsigned}
-use Rattle.figures.specs.Groups.{groups_of, total}
 use Rattle.figures.specs.Refusals.{ordinal_refusals, digit_ordinal_limit, digit_ordinal_refusals, Admitted}
 use Rattle.figures.proofs.Laws.Plain.{plain_digits, plain_some}
 use Rattle.figures.proofs.Laws.Sign.{unsigned_plain, formed_unsigned, plain_size}
-use Rattle.figures.proofs.Laws.Groups.{total_groups}
 use Rattle.figures.proofs.Laws.Refusals.{passed}
 use Rattle.uk_ordinal.specs.Ordinal.{ordinal_words}
 use Rattle.uk_ordinal.specs.Year.{early, era_words, year_noun, year_words}
@@ -43,17 +38,11 @@ digit_ordinal_digits xs e =
     let w : value xs ≤ digit_ordinal_limit = rw (unsigned_plain xs a.sign) at a.within in
     (plain_digits xs p, plain_some xs p, plain_size xs 39 p (omega arith) (lt_of_le_of_lt w (lit< tt)))
 
--- the code's test of a year
-at_most_0 : (y : ℤ) → le_z y (pos 0) ≡ early y
-at_most_0 (pos zero) = refl
-at_most_0 (pos (suc n)) = lt-leb (suc n) 0 (omega arith)
-at_most_0 (negsuc n) = refl
-
-pub early_is : (y : ℤ) → SFits w64 y → le_z (to_z w64 (of_z w64 y)) (pos 0) ≡ early y
-early_is y f = ap (λ (z : ℤ). le_z z (pos 0)) (to_z-of_z f) ∙ at_most_0 y
-
--- what is said of a year's groups
-pub year_said : (S : Settings) (gs : List ℕ) (is_early : Bool) (y : ℤ) → nat_abs y < 1000 ^ 22 → is_early ≡ early y → gs ≡ groups_of 22 (nat_abs y)
-    → joined (ordinal_words (in_gender masculine S) (total gs) ++ (year_noun S ∷ era_words is_early)) ≡ joined (year_words S y)
+-- what is said of a year's magnitude
+pub year_said : (S : Settings) (n : ℕ) (is_early : Bool) (y : ℤ) → is_early ≡ early y → n ≡ nat_abs y
+    → joined (ordinal_words (in_gender masculine S) n ++ (year_noun S ∷ era_words is_early)) ≡ joined (year_words S y)
 unfolding year_words
-year_said S gs is_early y h e f = rw (e, f, total_groups 22 (nat_abs y) h) refl
+year_said S n is_early y e f = rw (e, f) refl
+
+-- a year that is handed on is the same year
+pub ruleset year_laws = (common_steps, to_z-of_z, year_said)

@@ -8,9 +8,13 @@ use native.Mathlib.Numerals.{add-one}
 use native.Mathlib.Omega.{arith}
 use lib.ListN.{length, set, length-append}
 use lib.Seq.{drop-cons, set-append_seam}
+use Rattle.std.proofs.lemmas.Grind.{common_steps}
 use Rattle.base.specs.Buffer.{over}
-use Rattle.settings.specs.declared.Settings.{Settings}
+use Rattle.settings.specs.Settings.{Settings}
 use Rattle.figures.specs.Text.{value}
+use Rattle.words.specs.Part.{part}
+use Rattle.words.proofs.Parts.{part_short}
+use Rattle.uk_ordinal.specs.Pool.{short_pool}
 use Rattle.uk_ordinal.specs.Ordinal.{soft}
 use Rattle.uk_ordinal.specs.DigitOrdinal.{short_flexion, digit_ordinal}
 use Rattle.plan.proofs.Laws.{from, back, wrote}
@@ -31,9 +35,12 @@ hyphened xs t w ys zs n l e h f =
     wrote (n + 1) xs (t ++ (45 ∷ [])) w (set ys n 45) zs (rw (length-append t (45 ∷ [])) (omega arith)) s f ∙ ap (over xs) (append_assoc t (45 ∷ []) w)
 
 -- they are the digit ordinal, where the ending is that of what the digits mean
-pub is_ordinal : (S : Settings) (text w : List ℕ) (s : Bool) → s ≡ soft (value text) → w ≡ short_flexion S s → text ++ (45 ∷ w) ≡ digit_ordinal S text
+pub ordinal_is : (S : Settings) (text : List ℕ) (ending : ℕ) (s : Bool) → s ≡ soft (value text) → part short_pool ending ≡ short_flexion S s → digit_ordinal S text ≡ text ++ (45 ∷ part short_pool ending)
 unfolding digit_ordinal
-is_ordinal S text w s e f = rw (f, e) refl
+ordinal_is S text ending s e f = rw (f, e) refl
 
-pub ordinal_size : (S : Settings) (text w : List ℕ) (s : Bool) (n : ℕ) → s ≡ soft (value text) → w ≡ short_flexion S s → n ≡ length w → length text + 1 + n ≡ length (digit_ordinal S text)
-ordinal_size S text w s n e f h = rw (← is_ordinal S text w s e f, size_is text w) (omega arith)
+pub ordinal_length : (S : Settings) (text : List ℕ) (ending : ℕ) (s : Bool) → s ≡ soft (value text) → part short_pool ending ≡ short_flexion S s
+    → length (digit_ordinal S text) ≡ length text + suc (length (part short_pool ending))
+ordinal_length S text ending s e f = rw (ordinal_is S text ending s e f) (size_is text (part short_pool ending))
+
+pub ruleset ordinal_laws = (common_steps, size_is, ordinal_is, ordinal_length, part_short)

@@ -4,3 +4,4 @@ pub mod Hyphened
 pub mod OneWord
 pub mod Spelled
 pub mod Theorem
+pub mod Read

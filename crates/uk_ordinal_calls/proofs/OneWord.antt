@@ -11,7 +11,7 @@ use Rattle.base.specs.Measure.{spaces}
 use Rattle.base.specs.Utf8.{utf8, form1}
 use Rattle.base.proofs.Unspaced.{Unspaced, unspaced_append, unspaced_at1, unspaced_at2}
 use Rattle.settings.specs.Settings.{singular}
-use Rattle.settings.specs.declared.Settings.{Settings}
+use Rattle.settings.specs.Settings.{Settings}
 use Rattle.figures.specs.Text.{digits, value}
 use Rattle.figures.proofs.Laws.Digits.{digit_low, digits_head, digits_tail}
 use Rattle.uk_ordinal.specs.OrdinalTables.{ordinal_hard_flexions_singular_short, ordinal_soft_flexions_singular_short, ordinal_flexions_plural_short}

@@ -71,7 +71,7 @@ module _ (xs : List ℕ) (d : digits xs ≡ true) (h : 0 < length xs) where
     pub soft_alone : length xs ≡ 1 → soft (value xs) ≡ true
     soft_alone o = soft_tens (value xs) three ∙ rw (digit_past xs 1 d (omega arith)) refl
 
-    pub soft_after : (length xs ≡ 1 → ⊥) → soft (value xs) ≡ not (eqb (get_or xs (length xs - 2) 0) 49)
+    pub soft_after : 2 ≤ length xs → soft (value xs) ≡ not (eqb (get_or xs (length xs - 2) 0) 49)
     soft_after o =
         let i : length xs - 1 - 1 ≡ length xs - 2 = omega arith in
         let f : value xs / 10 % 10 ≡ get_or xs (length xs - 2) 0 - 48 = rw i at (digit_at xs 1 d (omega arith)) in

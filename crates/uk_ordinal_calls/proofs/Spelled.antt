@@ -16,7 +16,7 @@ use Rattle.base.specs.Join.{joined}
 use Rattle.base.proofs.Closing.{Readable}
 use Rattle.settings.specs.Settings.{masculine, ukrainian_ranges, within, Within, in_gender}
 use Rattle.settings.specs.Refused.{out_of_range}
-use Rattle.settings.specs.declared.Settings.{Settings}
+use Rattle.settings.specs.Settings.{Settings}
 use Rattle.settings.proofs.Ranges.{Unrefused, unrefused}
 use Rattle.figures.specs.Text.{value, negative, unsigned, well_formed}
 use Rattle.figures.specs.Refusals.{ukrainian_digit_limit, ordinal_refusals, year_refusals, Admitted}
@@ -34,25 +34,6 @@ use Rattle.uk_ordinal_read.specs.Promise.{SaysOrdinal, signed_year, SaysYear}
 use Rattle.uk_ordinal_read.proofs.Guessed.{ordinal_guessed, year_guessed}
 use Rattle.uk_ordinal_read.proofs.Answers.{year_phrase, year_small}
 use Rattle.uk_ordinal_calls.specs.UkOrdinals.{uk_to_ordinal, uk_to_year, year_text, reading_refusal}
-
--- whether a reading call refuses nothing, by the settings and the style; and what it refuses, if it does
-pub refuses_none : (S : Settings) → within (ukrainian_ranges S) ≡ true → school S ≡ eqb (reading_refusal S) 0
-refuses_none S w = rw w (go (school S))
-  where
-    go : (b : Bool) → b ≡ eqb (cond (not b) wrong_setting 0) 0
-    go true = refl
-    go false = refl
-
-pub refuses_range : (S : Settings) → within (ukrainian_ranges S) ≡ false → false ≡ eqb (reading_refusal S) 0
-refuses_range S w = rw w refl
-
-pub refuses_one : (S : Settings) → false ≡ eqb (reading_refusal S) 0 → reading_refusal S ≡ wrong_setting
-refuses_one S e = go (within (ukrainian_ranges S)) (school S) e
-  where
-    go : (w b : Bool) → false ≡ eqb (cond (not w) wrong_setting (cond (not b) wrong_setting 0)) 0 → cond (not w) wrong_setting (cond (not b) wrong_setting 0) ≡ wrong_setting
-    go false b e = refl
-    go true false e = refl
-    go true true e = clash_of e
 
 -- a reading call that refuses nothing has its settings in their ranges, and the style of school
 module _ (S : Settings) (v : reading_refusal S ≡ 0) where

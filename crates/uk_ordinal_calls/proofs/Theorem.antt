@@ -13,7 +13,7 @@ use Rattle.base.specs.Join.{joined}
 use Rattle.base.specs.Reading.{Reading, Replies, earlier, sentence, otherwise, Reads}
 use Rattle.base.specs.declared.Answer.{Answer}
 use Rattle.base.proofs.Closing as closing
-use Rattle.settings.specs.declared.Settings.{Settings}
+use Rattle.settings.specs.Settings.{Settings}
 use Rattle.figures.specs.Text.{value, negative, unsigned, well_formed}
 use Rattle.figures.specs.Refusals.{ukrainian_digit_limit, ordinal_refusals, year_refusals, Admitted}
 use Rattle.figures.specs.Written.{signed_decimal}

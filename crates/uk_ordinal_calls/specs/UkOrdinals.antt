@@ -6,7 +6,7 @@ use Rattle.base.specs.Reading.{Reading}
 use Rattle.base.specs.Join.{joined}
 use Rattle.settings.specs.Settings.{ukrainian_ranges}
 use Rattle.settings.specs.Refused.{out_of_range}
-use Rattle.settings.specs.declared.Settings.{Settings}
+use Rattle.settings.specs.Settings.{Settings}
 use Rattle.figures.specs.Text.{value, unsigned}
 use Rattle.figures.specs.Refusals.{ukrainian_digit_limit, ordinal_refusals, digit_ordinal_refusals, year_refusals, Admitted}
 use Rattle.figures.specs.Year.{year_of}

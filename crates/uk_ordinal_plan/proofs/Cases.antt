@@ -5,21 +5,21 @@ use mathlib.Core.Path.{◌≡◌, refl}
 use mathlib.Core.Bool.{true, false, ◌&&◌}
 use mathlib.Core.List.{List, [], ◌∷◌, ◌++◌, flatten, append-nil}
 use native.Mathlib.Omega.{arith}
-use borrow.Author.Tests.{eq-eqb, ne_eqb}
+use borrow.Author.Tests.{ne_eqb}
 use lib.Dec.{eqb, ltb}
 use Rattle.base.specs.Join.{Word}
 use Rattle.base.specs.Utf8.{utf8, form1, form2}
-use Rattle.settings.specs.declared.Settings.{Settings}
+use Rattle.settings.specs.Settings.{Settings}
 use Rattle.uk.specs.UkTables.{mega_bases}
 use Rattle.uk.specs.Apostrophes.{by_apostrophe1}
 use Rattle.uk.specs.Rules.{DigitWords, opt, low_words, num_words}
 use Rattle.uk.specs.Ukrainian.{unit_form, ukrainian_digits}
-use Rattle.uk_ordinal.specs.OrdinalTables.{hundred_base, ordinal_unit_bases, ordinal_tens_bases}
-use Rattle.uk_ordinal.specs.Ordinal.{in_nominative, in_genitive, school, compound_digits, compound_word, tail_words, hundred_count, plain_words, lowest_words}
+use Rattle.uk_ordinal.specs.OrdinalTables.{hundred_base, ordinal_unit_bases}
+use Rattle.uk_ordinal.specs.Ordinal.{in_nominative, in_genitive, school, compound_digits, compound_word, tail_words, hundred_count, plain_words}
 
 -- no list is empty that has an element
 some : {A : Type 0} {a : A} {l : List A} → a ∷ l ≡ [] → ⊥
-some e = let z : ◌≡◌ {A = ℕ} 0 1 = cc in omega arith
+some e = cc
 
 pub num_hundred : (W : DigitWords) (h t u : ℕ) → (h ≡ 0 → ⊥) → (W.hundred h ∷ []) ++ low_words W t u ≡ num_words W h t u
 num_hundred W zero t u n = absurd (n refl)
@@ -39,11 +39,11 @@ joined_some (u ∷ us) v vs e = some e
 
 module _ (S : Settings) where
   -- a compound's unit
-  pub unit_more : (u : ℕ) → (u ≡ 0 → ⊥) → (u ≡ 1 → ⊥) → unit_form (in_genitive S) u ∷ [] ≡ opt (compound_digits S).unit u
+  pub unit_more : (u : ℕ) → 1 < u → unit_form (in_genitive S) u ∷ [] ≡ opt (compound_digits S).unit u
   unfolding compound_digits
-  unit_more zero a b = absurd (a refl)
-  unit_more (suc zero) a b = absurd (b refl)
-  unit_more (suc (suc u)) a b = rw (ne_eqb (suc (suc u)) 1 b) refl
+  unit_more zero h = absurd (omega arith)
+  unit_more (suc zero) h = absurd (omega arith)
+  unit_more (suc (suc u)) h = rw (ne_eqb (suc (suc u)) 1 (λ e. omega arith)) refl
 
   -- a compound: a lone group of 1, and any other
   pub bare_word : (e : Word) (rest k g : ℕ) → (eqb rest 0 && eqb g 1) ≡ true → flatten (form1 mega_bases (k - 1) ∷ utf8 "н" ∷ e ∷ []) ≡ compound_word S e rest k g
@@ -56,9 +56,6 @@ module _ (S : Settings) where
   counted_word e rest k g h = rw h refl
 
   -- tens and units at order 0
-  pub tail_ten : (e : Word) (t u : ℕ) → (t ≡ 1 → ⊥) → u ≡ 0 → (form2 (by_apostrophe1 ordinal_tens_bases) S.apostrophe (t - 1) ++ e) ∷ [] ≡ tail_words S e t u
-  tail_ten e t u n z = rw (ne_eqb t 1 n, eq-eqb u 0 z) refl
-
   pub tail_unit : (e : Word) (t u : ℕ) → (t ≡ 1 → ⊥) → (u ≡ 0 → ⊥)
       → opt (ukrainian_digits (in_nominative S)).ten t ++ ((form2 (by_apostrophe1 ordinal_unit_bases) S.apostrophe (u - 1) ++ e) ∷ []) ≡ tail_words S e t u
   tail_unit e t u n z = rw (ne_eqb t 1 n, ne_eqb u 0 z) refl
@@ -72,21 +69,7 @@ module _ (S : Settings) where
   bare_hundred e h t = rw t refl
 
   -- the group at order 0
-  pub plain_hundred : (e : Word) (g : ℕ) → g % 100 ≡ 0 → (hundred_count S (g / 100 % 10) ++ (utf8 hundred_base ++ e)) ∷ [] ≡ plain_words S e g
-  unfolding plain_words
-  plain_hundred e g z = rw (eq-eqb (g % 100) 0 z) refl
-
   pub plain_more : (e : Word) (g : ℕ) → (g % 100 ≡ 0 → ⊥)
       → opt (ukrainian_digits (in_nominative S)).hundred (g / 100 % 10) ++ tail_words S e (g / 10 % 10) (g % 10) ≡ plain_words S e g
   unfolding plain_words
   plain_more e g z = rw (ne_eqb (g % 100) 0 z) refl
-
-  -- the lowest group by its order
-  pub lowest_plain : (e : Word) (rest k g : ℕ) → k ≡ 0 → plain_words S e g ≡ lowest_words S e rest k g
-  unfolding lowest_words
-  lowest_plain e rest k g z = rw z refl
-
-  pub lowest_scale : (e : Word) (rest k g : ℕ) → (k ≡ 0 → ⊥) → compound_word S e rest k g ∷ [] ≡ lowest_words S e rest k g
-  unfolding lowest_words
-  lowest_scale e rest zero g z = absurd (z refl)
-  lowest_scale e rest (suc k) g z = refl

@@ -13,7 +13,7 @@ use lib.ListN.{length, get_or, set, length-set}
 use lib.Seq.{set_out, get_or-set_same, get_or-set_other}
 use Rattle.base.specs.Join.{Word}
 use Rattle.base.specs.Utf8.{utf8}
-use Rattle.settings.specs.declared.Settings.{Settings}
+use Rattle.settings.specs.Settings.{Settings}
 use Rattle.figures.specs.Groups.{total, Groups}
 use Rattle.figures.proofs.Laws.Groups.{group_of_lem}
 use Rattle.groups.specs.Highest.{ZeroFrom, Highest}
@@ -25,12 +25,6 @@ use Rattle.cardinals.proofs.Arrays.{listed_is}
 use Rattle.uk.specs.Ukrainian.{ukrainian}
 use Rattle.uk_ordinal.specs.OrdinalTables.{ordinal_zero_base}
 use Rattle.uk_ordinal.specs.Ordinal.{soft, flexion, in_nominative, lowest_words, above, ordinal_at, ordinal_from, ordinal_words}
-use Rattle.uk_ordinal_plan.specs.Groups.{Groups22, LowestAt}
-
--- groups of at most three digits, one by one and all
-each : (gs : List ℕ) → ((i : ℕ) → get_or gs i 0 < 1000) → Groups gs
-each [] h = tt
-each (g ∷ gs) h = (h 0, each gs (λ i. h (suc i)))
 
 set_each : (gs : List ℕ) (k : ℕ) → Groups gs → Groups (set gs k 0)
 set_each [] k h = tt
@@ -47,7 +41,7 @@ zeros_set gs n k z i h = go (ℕ_discrete i k) (dec_lt k (length gs))
     go (no e) (yes l) = get_or-set_other gs k i 0 0 e ∙ z i h
 
 -- a number's last two digits stand in its group at order 0
-pub soft_first : (gs : List ℕ) → soft (get_or gs 0 0) ≡ soft (total gs)
+soft_first : (gs : List ℕ) → soft (get_or gs 0 0) ≡ soft (total gs)
 soft_first [] = refl
 soft_first (g ∷ gs) =
     let a : g % 10 ≡ (g + 1000 * total gs) % 10 = omega arith in
@@ -68,45 +62,14 @@ total_above (g ∷ gs) (suc k) h l z =
     rw (e, z 0 (omega arith), total_above gs k h.1 (omega arith) (λ i j. z (suc i) (omega arith)), pow-succ' 1000 (suc k))
     (sym (shifted (1000 ^ suc k) (total gs)))
 
--- 22 groups, of which the lowest that is not 0 is at the order k
-module _ (gs : List ℕ) (all : Groups22 gs) (k : ℕ) (low : LowestAt gs k) where
-  groups : Groups gs
-  groups = each gs all.below
+-- the lowest of groups that is not 0 is at the order k
+abbrev pub Lowest : List ℕ → ℕ → Type 0
+Lowest gs k = (k < 22) × ((i : ℕ) → i < k → get_or gs i 0 ≡ 0) × (get_or gs k 0 ≡ 0 → ⊥)
 
+-- 22 groups of at most three digits
+module _ (gs : List ℕ) (size : length gs ≡ 22) (groups : Groups gs) where
   group_is : (i : ℕ) → i < 22 → group_at i (total gs) ≡ get_or gs i 0
-  group_is i h = sym (group_of_lem gs i groups (omega (arith, all.count)))
-
-  -- the number above it
-  above_is : k < 22 → total (set gs k 0) ≡ above k (total gs)
-  above_is h = total_above gs k groups (omega (arith, all.count)) low.zeros
-
-  higher_is : (L : Lexicon) → k < 22 → listed L 22 (set gs k 0) ≡ groups_below L 22 (above k (total gs))
-  higher_is L h =
-      listed_is L (set gs k 0) 22 (set_each gs k groups) (omega (arith, all.count, length-set gs k 0)) ∙ ap (groups_below L 22) (above_is h)
-
-  -- it is alone just where the orders end with it
-  module _ (n : ℕ) (top : Highest gs n) (h : k < 22) where
-    pub above_none : k + 1 ≡ n → ZeroFrom (set gs k 0) 0
-    above_none e i l = go (ℕ_discrete i k) (dec_lt i k)
-      where
-        go : Dec (i ≡ k) → Dec (i < k) → get_or (set gs k 0) i 0 ≡ 0
-        go (yes q) d = rw q (get_or-set_same gs k 0 0 (omega (arith, all.count)))
-        go (no q) (yes b) = get_or-set_other gs k i 0 0 q ∙ low.zeros i b
-        go (no q) (no b) = get_or-set_other gs k i 0 0 q ∙ top.zeros i (omega arith)
-
-    pub lone : eqb (k + 1) n ≡ eqb (above k (total gs)) 0
-    lone = go (ℕ_discrete (k + 1) n) (inside (dec_lt k n))
-      where
-        inside : Dec (k < n) → k < n
-        inside (yes l) = l
-        inside (no l) = absurd (low.some h (top.zeros k (omega arith)))
-
-        high : above k (total gs) ≡ 0 → (k + 1 ≡ n → ⊥) → k < n → get_or gs (n - 1) 0 ≡ 0
-        high z e l = sym (get_or-set_other gs k (n - 1) 0 0 (λ q. e (omega arith))) ∙ none_total (set gs k 0) (above_is h ∙ z) (n - 1) (omega arith)
-
-        go : Dec (k + 1 ≡ n) → k < n → eqb (k + 1) n ≡ eqb (above k (total gs)) 0
-        go (yes e) l = eq-eqb (k + 1) n e ∙ sym (eq-eqb (above k (total gs)) 0 (sym (above_is h) ∙ total_none (set gs k 0) (above_none e)))
-        go (no e) l = ne_eqb (k + 1) n e ∙ sym (ne_eqb (above k (total gs)) 0 (λ z. top.some (omega arith) (high z e l)))
+  group_is i h = sym (group_of_lem gs i groups (omega (arith, size)))
 
   -- the words of the number, with the ending e
   module _ (S : Settings) (e : Word) (ends : e ≡ flexion S (soft (get_or gs 0 0))) where
@@ -114,27 +77,62 @@ module _ (gs : List ℕ) (all : Groups22 gs) (k : ℕ) (low : LowestAt gs k) whe
     unfolding ordinal_words
     words_are = ap (λ (w : Word). ordinal_from S w 22 0 (total gs)) (ends ∙ ap (flexion S) (soft_first gs))
 
-    -- from an order up to the lowest
-    from_up : (left order : ℕ) → order + left ≡ 22 → order ≤ k → k < 22 → ordinal_from S e left order (total gs) ≡ ordinal_at S e k (total gs)
-    unfolding ordinal_from
-    from_up zero order a b h = absurd (omega arith)
-    from_up (suc left) order a b h = go (ℕ_discrete order k) (λ l. from_up left (suc order) (omega arith) l h)
-      where
-        go : Dec (order ≡ k) → (suc order ≤ k → ordinal_from S e left (suc order) (total gs) ≡ ordinal_at S e k (total gs))
-            → ordinal_from S e (suc left) order (total gs) ≡ ordinal_at S e k (total gs)
-        go (yes q) up = rw (q, group_is k h, ne_eqb (get_or gs k 0) 0 (low.some h)) refl
-        go (no q) up = rw (group_is order (omega arith), low.zeros order (omega arith)) (up (omega arith))
+    -- of which none is other than 0
+    module _ (none : (i : ℕ) → get_or gs i 0 ≡ 0) where
+      from_none : (left order : ℕ) → order + left ≡ 22 → ordinal_from S e left order (total gs) ≡ (utf8 ordinal_zero_base ++ e) ∷ []
+      unfolding ordinal_from
+      from_none zero order a = refl
+      from_none (suc left) order a = rw (group_is order (omega arith), none order) (from_none left (suc order) (omega arith))
 
-    -- where there is none
-    from_none : (left order : ℕ) → order + left ≡ 22 → k ≡ 22 → ordinal_from S e left order (total gs) ≡ (utf8 ordinal_zero_base ++ e) ∷ []
-    unfolding ordinal_from
-    from_none zero order a h = refl
-    from_none (suc left) order a h = rw (group_is order (omega arith), low.zeros order (omega arith)) (from_none left (suc order) (omega arith) h)
+      pub ordinal_zero : (utf8 ordinal_zero_base ++ e) ∷ [] ≡ ordinal_words S (total gs)
+      ordinal_zero = sym (from_none 22 0 (omega arith)) ∙ words_are
 
-    pub ordinal_zero : k ≡ 22 → (utf8 ordinal_zero_base ++ e) ∷ [] ≡ ordinal_words S (total gs)
-    ordinal_zero h = sym (from_none 22 0 (omega arith) h) ∙ words_are
+  -- of which the lowest that is not 0 is at the order k
+  module _ (k : ℕ) (low : Lowest gs k) where
+    -- the number above it
+    above_is : total (set gs k 0) ≡ above k (total gs)
+    above_is = total_above gs k groups (omega (arith, size)) low.1
 
-    pub ordinal_higher : k < 22
-        → listed (ukrainian (in_nominative S)) 22 (set gs k 0) ++ lowest_words S e (above k (total gs)) k (get_or gs k 0) ≡ ordinal_words S (total gs)
-    unfolding ordinal_at
-    ordinal_higher h = rw (higher_is (ukrainian (in_nominative S)) h, ← group_is k h) (sym (from_up 22 0 (omega arith) (omega arith) h)) ∙ words_are
+    higher_is : (L : Lexicon) → listed L 22 (set gs k 0) ≡ groups_below L 22 (above k (total gs))
+    higher_is L = listed_is L (set gs k 0) 22 (set_each gs k groups) (omega (arith, size, length-set gs k 0)) ∙ ap (groups_below L 22) above_is
+
+    -- it is alone just where the orders end with it
+    module _ (n : ℕ) (top : Highest gs n) where
+      above_none : k + 1 ≡ n → ZeroFrom (set gs k 0) 0
+      above_none e i l = go (ℕ_discrete i k) (dec_lt i k)
+        where
+          go : Dec (i ≡ k) → Dec (i < k) → get_or (set gs k 0) i 0 ≡ 0
+          go (yes q) d = rw q (get_or-set_same gs k 0 0 (omega (arith, size)))
+          go (no q) (yes b) = get_or-set_other gs k i 0 0 q ∙ low.1 i b
+          go (no q) (no b) = get_or-set_other gs k i 0 0 q ∙ top.zeros i (omega arith)
+
+      pub lone : eqb (k + 1) n ≡ eqb (above k (total gs)) 0
+      lone = go (ℕ_discrete (k + 1) n) (inside (dec_lt k n))
+        where
+          inside : Dec (k < n) → k < n
+          inside (yes l) = l
+          inside (no l) = absurd (low.2 (top.zeros k (omega arith)))
+
+          high : above k (total gs) ≡ 0 → (k + 1 ≡ n → ⊥) → k < n → get_or gs (n - 1) 0 ≡ 0
+          high z e l = sym (get_or-set_other gs k (n - 1) 0 0 (λ q. e (omega arith))) ∙ none_total (set gs k 0) (above_is ∙ z) (n - 1) (omega arith)
+
+          go : Dec (k + 1 ≡ n) → k < n → eqb (k + 1) n ≡ eqb (above k (total gs)) 0
+          go (yes e) l = eq-eqb (k + 1) n e ∙ sym (eq-eqb (above k (total gs)) 0 (sym above_is ∙ total_none (set gs k 0) (above_none e)))
+          go (no e) l = ne_eqb (k + 1) n e ∙ sym (ne_eqb (above k (total gs)) 0 (λ z. top.some (omega arith) (high z e l)))
+
+    -- the words of the number, with the ending e
+    module _ (S : Settings) (e : Word) (ends : e ≡ flexion S (soft (get_or gs 0 0))) where
+      -- from an order up to the lowest
+      from_up : (left order : ℕ) → order + left ≡ 22 → order ≤ k → ordinal_from S e left order (total gs) ≡ ordinal_at S e k (total gs)
+      unfolding ordinal_from
+      from_up zero order a b = absurd (omega (arith, low.0))
+      from_up (suc left) order a b = go (ℕ_discrete order k) (λ l. from_up left (suc order) (omega arith) l)
+        where
+          go : Dec (order ≡ k) → (suc order ≤ k → ordinal_from S e left (suc order) (total gs) ≡ ordinal_at S e k (total gs))
+              → ordinal_from S e (suc left) order (total gs) ≡ ordinal_at S e k (total gs)
+          go (yes q) up = rw (q, group_is k low.0, ne_eqb (get_or gs k 0) 0 low.2) refl
+          go (no q) up = rw (group_is order (omega arith), low.1 order (omega arith)) (up (omega arith))
+
+      pub ordinal_higher : listed (ukrainian (in_nominative S)) 22 (set gs k 0) ++ lowest_words S e (above k (total gs)) k (get_or gs k 0) ≡ ordinal_words S (total gs)
+      unfolding ordinal_at
+      ordinal_higher = rw (higher_is (ukrainian (in_nominative S)), ← group_is k low.0) (sym (from_up 22 0 (omega arith) (omega arith))) ∙ words_are S e ends

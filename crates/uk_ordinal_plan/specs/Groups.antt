@@ -1,15 +1,9 @@
 -- The groups of a number, as the planners take them.
 -- Assumes nothing.
-use Rattle.std.specs.Prelude.{ℕ, ◌≤◌, ◌<◌, ◌≡◌, List, length, get_or}
+use Rattle.std.specs.Prelude.{ℕ, ◌<◌, ◌≡◌, List, get_or, Option, Some, None}
 use Rattle.uk.specs.Ukrainian.{ukrainian_orders}
 
--- 22 groups of at most three digits
-pub record Groups22 (gs : List ℕ) : Type 0 where
-  pub count : length gs ≡ ukrainian_orders
-  pub below : (i : ℕ) → get_or gs i 0 < 1000
-
--- the lowest of them that is not 0 is at the order r, or there is none and r is 22
-pub record LowestAt (gs : List ℕ) (r : ℕ) : Type 0 where
-  pub zeros : (i : ℕ) → i < r → get_or gs i 0 ≡ 0
-  pub some : r < ukrainian_orders → get_or gs r 0 ≡ 0 → ⊥
-  pub most : r ≤ ukrainian_orders
+-- the lowest of 22 groups that is not 0 is at this order, or there is none
+pub record LowestAt (gs : List ℕ) (r : Option ℕ) : Type 0 where
+  pub found : (order : ℕ) → r ≡ Some order → (order < ukrainian_orders) × ((i : ℕ) → i < order → get_or gs i 0 ≡ 0) × (get_or gs order 0 ≡ 0 → ⊥)
+  pub none : r ≡ None → (i : ℕ) → get_or gs i 0 ≡ 0

@@ -12,10 +12,10 @@ pub data LedBy (s : ℕ) : List Piece → Type 0 where
   nothing : LedBy s []
   piece : (w : Word) (ps : List Piece) → LedBy s ((s, w) ∷ ps)
 
--- the plan xs of which n are written has become ys with r written, by at most k more, led by the separator s, which say the bytes b
-pub record Said (pool : List ℕ) (s k : ℕ) (xs : List ℕ) (n : ℕ) (ys : List ℕ) (r : ℕ) (b : List ℕ) : Type 0 where
+-- the plan xs has become ys by at most k pieces more, led by the separator s, which say the bytes b
+pub record Said (pool : List ℕ) (s k : ℕ) (xs ys : List ℕ) (b : List ℕ) : Type 0 where
   pub pieces : List Piece
-  pub added : Added pool k xs n ys r pieces
+  pub added : Added pool k xs ys pieces
   pub led : LedBy s pieces
   pub bytes : following pieces ≡ b
 
@@ -25,9 +25,9 @@ run_on s [] = []
 run_on s (w ∷ ws) = gap s ++ flatten (w ∷ ws)
 
 -- `Said` of the words ws, run together after the separator s
-pub record Ran (pool : List ℕ) (s k : ℕ) (xs : List ℕ) (n : ℕ) (ys : List ℕ) (r : ℕ) (ws : List Word) : Type 0 where
-  pub said : Said pool s k xs n ys r (run_on s ws)
+pub record Ran (pool : List ℕ) (s k : ℕ) (xs ys : List ℕ) (ws : List Word) : Type 0 where
+  pub said : Said pool s k xs ys (run_on s ws)
 
 -- `Said` of the words ws, each after a space
-pub record Spoken (pool : List ℕ) (k : ℕ) (xs : List ℕ) (n : ℕ) (ys : List ℕ) (r : ℕ) (ws : List Word) : Type 0 where
-  pub said : Said pool space k xs n ys r (spaced_by space ws)
+pub record Spoken (pool : List ℕ) (k : ℕ) (xs ys : List ℕ) (ws : List Word) : Type 0 where
+  pub said : Said pool space k xs ys (spaced_by space ws)

@@ -1,32 +1,31 @@
 -- The count of a compound is taken word by word from its stem: one computed test tells each count word at the front of what follows it.
 -- Assumes nothing.
-use Prim.Native.Nat.{ℕ, zero, suc, ◌+◌, ◌-◌, ◌*◌, ◌/◌, ◌%◌, ◌<◌, ◌≤◌}
-use mathlib.Core.Path.{◌≡◌, refl, sym, ap, ◌∙◌, subst}
-use mathlib.Core.Bool.{Bool, true, false, not, cond, ◌&&◌, ◌||◌}
-use mathlib.Core.List.{List, [], ◌∷◌, ◌++◌, append_assoc, append-nil, flatten}
+use Prim.Native.Nat.{ℕ, zero, suc, ◌+◌, ◌*◌, ◌/◌, ◌%◌, ◌<◌, ◌≤◌}
+use mathlib.Core.Path.{◌≡◌, refl, sym, ap, ◌∙◌}
+use mathlib.Core.Bool.{Bool, true, false, not, ◌&&◌, ◌||◌}
+use mathlib.Core.List.{List, [], ◌∷◌, ◌++◌, append_assoc, flatten}
 use native.Mathlib.Omega.{arith}
 use native.Mathlib.Nat.{mod-eq_of_lt}
-use borrow.Author.Tests.{eqb-true, ltb-true, not-true, eq-eqb, ne_eqb, le-ltb}
+use borrow.Author.Tests.{eqb-true, ltb-true, not-true, ne_eqb, le-ltb}
 use lib.Dec.{eqb, ltb}
-use lib.ListN.{length, take, drop, get_or, length-append, get_or-append}
+use lib.ListN.{length, drop, length-append, get_or-append}
 use lib.Seq.{take-append-le, drop-append-le, drop-append_seam}
 use Rattle.base.specs.Join.{Word}
-use Rattle.base.specs.Bytes.{num}
-use Rattle.base.specs.Utf8.{utf8, form1, form2, form3}
-use Rattle.base.proofs.Words.{either}
+use Rattle.base.specs.Utf8.{form1, form2, form3}
 use Rattle.tables.proofs.Tests.{clash_of, both_hold, all, all_at}
 use Rattle.meanings.specs.Lookup.{lookup}
 use Rattle.uk_counts.specs.Counts.{leads, counts, lead_of, entry_of, count_of}
 use Rattle.settings.specs.Settings.{ukrainian_settings, ukrainian_ranges, Within}
-use Rattle.settings.specs.declared.Settings.{Settings}
+use Rattle.settings.specs.Settings.{Settings}
 use Rattle.uk.specs.UkTables.{gendered, units, teens_bases, teens_flexions, tens, hundreds}
 use Rattle.uk.specs.Apostrophes.{by_apostrophe1, by_apostrophe2}
 use Rattle.uk.specs.Rules.{DigitWords, opt, low_words, num_words}
 use Rattle.uk.specs.Ukrainian.{unit_form, teen_form, ukrainian_digits}
 use Rattle.uk_ordinal.specs.OrdinalTables.{one_base}
 use Rattle.uk_ordinal.specs.Ordinal.{school, compound_digits}
-use Rattle.uk_ordinal_read.specs.LastWord.{spaced, grown, counted, uncounted}
+use Rattle.uk_ordinal_read.specs.LastWord.{spaced, grown}
 use Rattle.uk_ordinal_read.proofs.Stems.{spaced_append}
+use Rattle.uk_ordinal_read.proofs.CountLaws.{Counts, none, one}
 
 -- x shows a count word at its front, with the entry e
 tells? : Word → ℕ → Bool
@@ -50,25 +49,6 @@ module _ (x r : Word) (long : 16 ≤ length (x ++ r)) where
       let q = both_hold (ltb (lead_of x % 16) (length x)) (eqb (entry_of x) e) p.1 in
       let s : entry_of (x ++ r) ≡ e = same_entry (ltb-true 6 (length x) p.0) (ltb-true (lead_of x % 16) (length x) q.0) ∙ eqb-true (entry_of x) e q.1 in
       rw (s, le-ltb (length (x ++ r)) 16 long, le-ltb (length (x ++ r)) (e % 64) h) refl
-
--- what at most k count words at the front of s make of a count, and what is left
-pub record Counts (k value : ℕ) (s : List ℕ) (result : ℕ) (rest : List ℕ) : Type 0 where
-  pub counts : counted k value s ≡ result
-  pub leaves : uncounted k s ≡ rest
-
--- nothing, where no count word stands
-pub none : (k value : ℕ) (s : List ℕ) → count_of s ≡ 0 → Counts k value s value s
-unfolding counted uncounted
-none zero value s e = record { counts = refl; leaves = refl }
-none (suc k) value s e = record { counts = rw (eq-eqb (count_of s) 0 e) refl; leaves = rw (eq-eqb (count_of s) 0 e) refl }
-
--- one more
-one : (k value e : ℕ) (s : List ℕ) {result : ℕ} {rest : List ℕ} → count_of s ≡ e → 0 < e → Counts k (grown value (e / 64)) (drop (e % 64) s) result rest → Counts (suc k) value s result rest
-unfolding counted uncounted
-one k value e s h p c = record {
-  counts = rw (h, ne_eqb e 0 (λ z. omega arith)) c.counts;
-  leaves = rw (h, ne_eqb e 0 (λ z. omega arith)) c.leaves;
-}
 
 -- what stands behind a count word: so many bytes, and a letter first
 abbrev pub letter? : ℕ → Bool

@@ -1,14 +1,13 @@
 -- Where the last word of a text starts, looked for from its end.
 -- Assumes nothing.
 use Prim.Native.Nat.{ℕ, zero, suc, ◌+◌, ◌-◌, ◌<◌, ◌≤◌}
-use mathlib.Core.Path.{◌≡◌, refl, sym, ◌∙◌, ap}
-use mathlib.Core.Bool.{Bool, true, false, cond, ◌||◌}
+use mathlib.Core.Path.{◌≡◌, refl, ap}
+use mathlib.Core.Bool.{Bool, true, false, ◌||◌}
 use mathlib.Core.List.{List, [], ◌∷◌}
 use native.Mathlib.Omega.{arith}
 use borrow.Author.Tests.{eq-eqb, ne_eqb}
 use lib.Dec.{eqb}
 use lib.ListN.{length, take, drop, get_or}
-use lib.Seq.{drop-cons, drop-length}
 use Rattle.tables.proofs.Tests.{clash}
 use Rattle.uk_ordinal_read.specs.LastWord.{spaced, last_word, before_last}
 
@@ -22,34 +21,28 @@ spaced_at (b ∷ s) (suc i) h e = rw (spaced_at s i (omega arith) e) (or_true (e
     or_true true = refl
     or_true false = refl
 
--- none from a place on, and none before it: none from the place before it on
-pub none_from : (s : List ℕ) (at : ℕ) → 0 < at → at ≤ length s → (get_or s (at - 1) 0 ≡ 32 → ⊥) → spaced (drop at s) ≡ false → spaced (drop (at - 1) s) ≡ false
-none_from s at h l n e =
-    let q : suc (at - 1) ≡ at = omega arith in
-    let d : drop (at - 1) s ≡ get_or s (at - 1) 0 ∷ drop at s = drop-cons s (at - 1) 0 (omega arith) ∙ ap (λ (i : ℕ). get_or s (at - 1) 0 ∷ drop i s) q in
-    rw (d, ne_eqb (get_or s (at - 1) 0) 32 n) e
-
--- none at the end
-pub none_last : (s : List ℕ) → spaced (drop (length s) s) ≡ false
-none_last s = rw (drop-length s) refl
+-- none at any place
+unspaced : (s : List ℕ) → ((k : ℕ) → k < length s → get_or s k 0 ≡ 32 → ⊥) → spaced s ≡ false
+unspaced [] n = refl
+unspaced (b ∷ s) n = rw (ne_eqb b 32 (n 0 (omega arith)), unspaced s (λ k h. n (suc k) (omega arith))) refl
 
 -- the last space stands before the last word
-after : (s : List ℕ) (i : ℕ) → i < length s → get_or s i 0 ≡ 32 → spaced (drop (suc i) s) ≡ false → (drop (suc i) s ≡ last_word s) × (take i s ≡ before_last s)
+after : (s : List ℕ) (i : ℕ) → i < length s → get_or s i 0 ≡ 32 → ((k : ℕ) → i < k → k < length s → get_or s k 0 ≡ 32 → ⊥) → (drop (suc i) s ≡ last_word s) × (take i s ≡ before_last s)
 unfolding last_word before_last
 after [] i h e n = absurd (omega arith)
-after (b ∷ s) zero h e n = (rw (n, eq-eqb b 32 e) refl, rw n refl)
+after (b ∷ s) zero h e n = let u = unspaced s (λ k l. n (suc k) (omega arith) (omega arith)) in (rw (u, eq-eqb b 32 e) refl, rw u refl)
 after (b ∷ s) (suc i) h e n =
     let t = spaced_at s i (omega arith) e in
-    let r = after s i (omega arith) e n in
+    let r = after s i (omega arith) e (λ k l m. n (suc k) (omega arith) (omega arith)) in
     (rw t r.0, rw t (ap (λ (l : List ℕ). b ∷ l) r.1))
 
-pub last_after : (s : List ℕ) (at : ℕ) → 0 < at → at ≤ length s → get_or s (at - 1) 0 ≡ 32 → spaced (drop at s) ≡ false
-    → (drop at s ≡ last_word s) × (take (at - 1) s ≡ before_last s) × (at ≤ length s)
-last_after s zero h l e n = absurd (omega arith)
-last_after s (suc i) h l e n =
-    let q : suc i - 1 ≡ i = omega arith in
-    let r = after s i (omega arith) (rw q at e) n in
-    (r.0, rw q r.1, l)
+pub last_after : (s : List ℕ) (i : ℕ) → i < length s → get_or s i 0 ≡ 32 → ((k : ℕ) → i < k → k < length s → get_or s k 0 ≡ 32 → ⊥)
+    → (drop (i + 1) s ≡ last_word s) × (take (i + 1 - 1) s ≡ before_last s) × (i + 1 ≤ length s)
+last_after s i h e n =
+    let q : i + 1 ≡ suc i = omega arith in
+    let z : suc i - 1 ≡ i = omega arith in
+    let r = after s i h e n in
+    rw (q, z) (r.0, r.1, omega arith)
 
 -- a text without a space is its last word
 pub all_last : (s : List ℕ) → spaced s ≡ false → (s ≡ last_word s) × ([] ≡ before_last s)
@@ -62,10 +55,5 @@ all_last (b ∷ s) n = go (eqb b 32) (spaced s) refl refl n
     go false true e f q = clash q
     go false false e f q = (rw (f, e) refl, rw f refl)
 
-pub last_all : (s : List ℕ) (at : ℕ) → at ≤ 0 → spaced (drop at s) ≡ false → (s ≡ last_word s) × ([] ≡ before_last s) × (0 ≤ length s)
-last_all s zero h n = let r = all_last s n in (r.0, r.1, omega arith)
-last_all s (suc at) h n = absurd (omega arith)
-
--- a part of no bytes
-pub none_taken : (n : ℕ) (s : List ℕ) → n ≡ 0 → [] ≡ take n s
-none_taken n s e = sym (ap (λ (i : ℕ). take i s) e)
+pub none_last : (s : List ℕ) → ((k : ℕ) → k < length s → get_or s k 0 ≡ 32 → ⊥) → (s ≡ last_word s) × ([] ≡ before_last s) × (0 ≤ length s)
+none_last s n = let r = all_last s (unspaced s n) in (r.0, r.1, omega arith)

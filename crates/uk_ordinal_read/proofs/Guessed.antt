@@ -1,36 +1,36 @@
 -- What is made of the phrase of any ordinal is its number, and so of a year's: a phrase comes from one number only.
 -- Assumes nothing.
-use Prim.Native.Nat.{ℕ, zero, suc, ◌+◌, ◌-◌, ◌*◌, ◌/◌, ◌%◌, ◌^◌, ◌<◌, ◌≤◌}
-use mathlib.Core.Path.{◌≡◌, refl, sym, ap, ◌∙◌, subst}
-use mathlib.Core.Bool.{Bool, true, false, cond, not}
+use Prim.Native.Nat.{ℕ, zero, suc, ◌+◌, ◌-◌, ◌*◌, ◌%◌, ◌^◌, ◌<◌}
+use mathlib.Core.Path.{◌≡◌, refl, sym, ap, ◌∙◌}
+use mathlib.Core.Bool.{Bool, true, false, not}
 use mathlib.Core.List.{List, [], ◌∷◌, ◌++◌, append_assoc, append-nil}
 use native.Mathlib.Nat.{pow-succ', mod-eq_of_lt, mul_left_comm}
 use native.Mathlib.Omega.{arith}
-use borrow.Author.Tests.{eqb-true, not-true}
+use borrow.Author.Tests.{not-true}
 use lib.Dec.{eqb}
-use lib.ListN.{length, take, get_or, set, length-append}
+use lib.ListN.{length, get_or, set, length-append}
 use lib.Seq.{get_or-append_seam, get_or-append-add}
 use Rattle.base.specs.Join.{Word, spaced_by, joined}
 use Rattle.base.specs.Signs.{space, point}
 use Rattle.base.specs.Utf8.{utf8, form2}
 use Rattle.tables.proofs.Tests.{all, all_at}
 use Rattle.settings.specs.Settings.{masculine, ukrainian_ranges, Within, in_gender}
-use Rattle.settings.specs.declared.Settings.{Settings}
-use Rattle.figures.specs.Groups.{total, Groups}
+use Rattle.settings.specs.Settings.{Settings}
+use Rattle.figures.specs.Groups.{total}
 use Rattle.figures.proofs.Laws.Groups.{group_of_lem}
 use Rattle.cardinals.specs.Lexicon.{Lexicon}
 use Rattle.cardinals.specs.Cardinal.{group_at, groups_below, cardinal_words, cardinal_phrase}
-use Rattle.cardinals.proofs.Numbers.{cardinal_some, says}
+use Rattle.cardinals.proofs.Numbers.{says}
 use Rattle.tokens.specs.Tokens.{split}
 use Rattle.uk.specs.Ukrainian.{ukrainian}
 use Rattle.uk_read.specs.Reading.{taken, sums, signed, after_minus}
 use Rattle.uk_read.proofs.Falls.{sums_length, sums_groups, lone}
 use Rattle.uk_read.proofs.Compared.{made}
 use Rattle.uk_ordinal.specs.OrdinalTables.{year}
-use Rattle.uk_ordinal.specs.Ordinal.{flexion, school, in_nominative, ordinal_words}
+use Rattle.uk_ordinal.specs.Ordinal.{school, in_nominative, ordinal_words}
 use Rattle.uk_ordinal.specs.Year.{era_words, year_noun}
-use Rattle.uk_ordinal_read.specs.LastWord.{spaced, last_word, before_last, without, stem_order, stem_value}
-use Rattle.uk_ordinal_read.specs.Guess.{added, stem_of, ordinal_groups, ordinal_number, seems_early, year_ordinal}
+use Rattle.uk_ordinal_read.specs.LastWord.{spaced, last_word, before_last}
+use Rattle.uk_ordinal_read.specs.Guess.{ordinal_groups, ordinal_number, seems_early, year_ordinal}
 use Rattle.uk_ordinal_read.proofs.Stems.{without_end}
 use Rattle.uk_ordinal_read.proofs.Ends.{spaced_at, all_last}
 use Rattle.uk_ordinal_read.proofs.Parts.{Parts, ordinal_parts}

@@ -1,13 +1,13 @@
 -- The last word of an ordinal above order 0: its order and its count are found again.
 -- Assumes nothing.
-use Prim.Native.Nat.{ℕ, suc, ◌+◌, ◌-◌, ◌*◌, ◌/◌, ◌%◌, ◌<◌, ◌≤◌}
+use Prim.Native.Nat.{ℕ, ◌+◌, ◌-◌, ◌*◌, ◌/◌, ◌%◌, ◌<◌}
 use mathlib.Core.Path.{◌≡◌, refl, sym, ap, ◌∙◌}
 use mathlib.Core.Bool.{Bool, true, false, not, cond, ◌&&◌}
 use mathlib.Core.List.{List, [], ◌∷◌, ◌++◌, append_assoc, append-nil, flatten}
 use native.Mathlib.Omega.{arith}
-use borrow.Author.Tests.{eqb-true, ltb-true, not-true, eq-eqb, ne_eqb}
+use borrow.Author.Tests.{eqb-true, ltb-true, not-true, ne_eqb}
 use lib.Dec.{eqb, ltb}
-use lib.ListN.{length, get_or, length-append}
+use lib.ListN.{length, length-append}
 use lib.Seq.{get_or-append-add}
 use Rattle.base.specs.Join.{Word}
 use Rattle.base.specs.Utf8.{utf8, form1}
@@ -17,13 +17,14 @@ use Rattle.meanings.specs.Lookup.{lookup}
 use Rattle.uk_ordinal_meanings.specs.Meanings.{shifts, table, meaning_of}
 use Rattle.uk_counts.specs.Counts.{leads, counts, lead_of, entry_of, count_of}
 use Rattle.settings.specs.Settings.{ukrainian_ranges, Within}
-use Rattle.settings.specs.declared.Settings.{Settings}
+use Rattle.settings.specs.Settings.{Settings}
 use Rattle.uk.specs.UkTables.{mega_bases}
 use Rattle.uk.specs.Rules.{num_words}
-use Rattle.uk_ordinal.specs.Ordinal.{school, compound_digits, compound_words, compound_word}
-use Rattle.uk_ordinal_read.specs.LastWord.{spaced, counted, uncounted, stem_means, compound, stem_order, stem_value}
-use Rattle.uk_ordinal_read.proofs.Stems.{Stemmed, Ends, hard, spaced_append, without_end, ending_unspaced}
-use Rattle.uk_ordinal_read.proofs.Compounds.{lettered?, Follows, Counts, none, num_counts}
+use Rattle.uk_ordinal.specs.Ordinal.{school, compound_digits, compound_word}
+use Rattle.uk_ordinal_read.specs.LastWord.{spaced, stem_means, compound, stem_order, stem_value}
+use Rattle.uk_ordinal_read.proofs.Stems.{Ends, hard, spaced_append, without_end, ending_unspaced}
+use Rattle.uk_ordinal_read.proofs.CountLaws.{Counts, none}
+use Rattle.uk_ordinal_read.proofs.Compounds.{lettered?, Follows, num_counts}
 
 -- what ends a compound's stem: a scale's base and н
 scale : ℕ → Word

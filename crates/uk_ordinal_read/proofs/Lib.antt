@@ -6,5 +6,6 @@ pub mod Guessed
 pub mod CountLaws
 pub mod Ends
 pub mod Years
+pub mod Magnitude
 pub mod Adding
 pub mod Answers

@@ -1,19 +1,19 @@
 -- An ordinal's words are the nominative cardinal of one number, if it is not 0, and a last word that says another at an order: their sum is the ordinal's.
 -- Assumes nothing.
-use Prim.Native.Nat.{ℕ, zero, suc, ◌+◌, ◌-◌, ◌*◌, ◌/◌, ◌%◌, ◌^◌, ◌<◌, ◌≤◌}
+use Prim.Native.Nat.{ℕ, zero, suc, ◌+◌, ◌-◌, ◌*◌, ◌/◌, ◌%◌, ◌^◌, ◌<◌}
 use mathlib.Core.Path.{◌≡◌, refl, sym, ap, ◌∙◌, subst}
 use mathlib.Core.Bool.{Bool, true, false, not, cond, ◌&&◌}
 use mathlib.Core.List.{List, [], ◌∷◌, ◌++◌, append_assoc, append-nil}
-use native.Mathlib.Nat.{pow-succ', one-le-pow, div-one, div-add-mod', div-div-eq-div-mul, mul_assoc, mul_comm, mod-eq_of_lt, mod-lt, mod-one, mul_left_comm}
+use native.Mathlib.Nat.{pow-succ', one-le-pow, div-one, div-add-mod', div-div-eq-div-mul, mul_assoc, mod-eq_of_lt, mod-lt, mod-one, mul_left_comm}
 use native.Mathlib.Omega.{arith}
 use native.Mathlib.Decide.{ℕ_discrete}
-use borrow.Author.Tests.{eqb-true, eqb-false, eq-eqb, ne_eqb, lt-ltb, le-ltb}
+use borrow.Author.Tests.{eqb-true, eqb-false, eq-eqb, ne_eqb, lt-ltb}
 use lib.Arith.{mod-mul, digits_div}
-use lib.Dec.{eqb, ltb}
+use lib.Dec.{eqb}
 use Rattle.base.specs.Join.{Word}
 use Rattle.base.specs.Utf8.{utf8, form2}
 use Rattle.settings.specs.Settings.{ukrainian_ranges, Within}
-use Rattle.settings.specs.declared.Settings.{Settings}
+use Rattle.settings.specs.Settings.{Settings}
 use Rattle.cardinals.specs.Lexicon.{Lexicon}
 use Rattle.cardinals.specs.Cardinal.{group_at, group_of, groups_below}
 use Rattle.uk.specs.UkTables.{teens_bases}

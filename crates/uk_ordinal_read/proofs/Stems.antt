@@ -1,13 +1,13 @@
 -- The stems of order 0, each with its value: one computed test over all stems, under every sign and before every ending.
 -- Assumes nothing.
 use Prim.Native.Nat.{ℕ, ◌+◌, ◌-◌, ◌*◌, ◌%◌, ◌<◌, ◌≤◌}
-use mathlib.Core.Path.{◌≡◌, refl, sym, ap, ◌∙◌}
+use mathlib.Core.Path.{◌≡◌, refl}
 use mathlib.Core.Bool.{Bool, true, false, not, ◌&&◌, ◌||◌}
-use mathlib.Core.List.{List, [], ◌∷◌, ◌++◌}
+use mathlib.Core.List.{[], ◌∷◌, ◌++◌}
 use native.Mathlib.Omega.{arith}
 use borrow.Author.Tests.{eqb-true, not-true}
 use lib.Dec.{eqb}
-use lib.ListN.{length, take, length-append}
+use lib.ListN.{length, length-append}
 use lib.Seq.{take-append_seam}
 use Rattle.base.specs.Join.{Word}
 use Rattle.base.specs.Signs.{space}
@@ -17,7 +17,7 @@ use Rattle.tokens.specs.Tokens.{first_word, full_key, key}
 use Rattle.meanings.specs.Lookup.{lookup}
 use Rattle.uk_ordinal_meanings.specs.Meanings.{shifts, table, meaning_of}
 use Rattle.settings.specs.Settings.{ukrainian_settings, ukrainian_ranges, Within}
-use Rattle.settings.specs.declared.Settings.{Settings}
+use Rattle.settings.specs.Settings.{Settings}
 use Rattle.uk.specs.UkTables.{gendered, units, teens_bases}
 use Rattle.uk.specs.Apostrophes.{by_apostrophe1, by_apostrophe2}
 use Rattle.uk.specs.Ukrainian.{unit_form}

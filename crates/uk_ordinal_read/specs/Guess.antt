@@ -1,11 +1,11 @@
 -- The number that the reader makes of any bytes, as an ordinal and as a year. Its words are compared with the bytes afterwards, so nothing here has to be
 -- believed.
 -- Assumes nothing.
-use Rattle.std.specs.Prelude.{ℕ, suc, ◌+◌, ◌-◌, ◌%◌, Bool, false, cond, List, [], ◌∷◌, eqb, length, take, get_or, set}
+use Rattle.std.specs.Prelude.{ℕ, ◌+◌, ◌-◌, ◌%◌, Bool, false, List, ◌∷◌, eqb, length, get_or, set}
 use Rattle.base.specs.Join.{Word, spaced_by}
 use Rattle.base.specs.Signs.{space, point}
 use Rattle.figures.specs.Groups.{total}
-use Rattle.settings.specs.declared.Settings.{Settings}
+use Rattle.settings.specs.Settings.{Settings}
 use Rattle.tokens.specs.Tokens.{split}
 use Rattle.uk.specs.Ukrainian.{ukrainian_orders}
 use Rattle.uk_read.specs.Reading.{sums}

@@ -3,7 +3,7 @@
 use Rattle.std.specs.Prelude.{ℕ, ◌^◌, ◌≤◌, ◌<◌, ◌≡◌, Bool, false, cond, not, ◌&&◌, ◌||◌, List, eqb, leb, ℤ, pos, neg_ℤ}
 use Rattle.base.specs.Join.{joined}
 use Rattle.figures.specs.Year.{year_limit}
-use Rattle.settings.specs.declared.Settings.{Settings}
+use Rattle.settings.specs.Settings.{Settings}
 use Rattle.uk.specs.Ukrainian.{ukrainian_orders}
 use Rattle.uk_ordinal.specs.Ordinal.{ordinal_words}
 use Rattle.uk_ordinal.specs.Year.{year_words}

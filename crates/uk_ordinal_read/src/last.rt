@@ -3,7 +3,6 @@ ghost use Rattle.std.specs.Prelude.{◌≡◌, true, ◌≤◌, ◌<◌, length,
 ghost use Rattle.uk_ordinal_read.specs.LastWord.{grown as grown_by, counted, uncounted, compound as is_compound, stem_order, stem_value};
 
 use uk::ORDERS;
-use uk_counts::SIZES;
 
 // The last byte of н, which no stem of order 0 has at its end.
 const ADJECTIVE: u8 = 0xbd;
@@ -12,7 +11,7 @@ const ADJECTIVE: u8 = 0xbd;
 const COUNT_WORDS: usize = 4;
 
 // What сот counts.
-const HUNDREDS: u32 = 1000;
+const HUNDREDS: u16 = 1000;
 
 // What the count words at the front of a stem count, and where they end.
 #[derive(Clone, Copy)]
@@ -29,14 +28,14 @@ pub struct Meant {
 }
 
 // A count of which a word more is taken.
-fn grown(value: u16, more: u32) -> u16
-    requires { more < 65536 }
+fn grown(value: u16, more: u16) -> u16
+    requires { more < 1024 }
     ensures { (result ≡ grown_by value more) × (result < 1000) }
 {
     if more == HUNDREDS {
         return value % 10 * 100;
     }
-    ((value as u32 + more) % 1000) as u16
+    ((u32::from(value) + u32::from(more)) % 1000) as u16
 }
 
 // The count at the front of a stem.
@@ -46,15 +45,14 @@ fn count(s: &[u8]) -> CountRead
 {
     let mut value: u16 = 0;
     let mut at: usize = 0;
-    let mut left = COUNT_WORDS;
-    while 0 < left {
-        let c = uk_counts::count(&s[at..]);
-        if c == 0 {
-            return CountRead { value, next: at };
+    for _ in 0..COUNT_WORDS {
+        match uk_counts::count(&s[at..]) {
+            Some(word) => {
+                value = grown(value, word.value);
+                at += word.length;
+            }
+            None => break,
         }
-        value = grown(value, c / SIZES);
-        at += (c % SIZES) as usize;
-        left -= 1;
     }
     CountRead { value, next: at }
 }
@@ -68,13 +66,9 @@ fn compound(stem: &[u8]) -> Meant
     let at = c.next;
     let t = tokens::first(&stem[at..]);
     let m = uk_ordinal_meanings::meaning(t.key);
-    let order = m as usize % 1000 % ORDERS;
-    if c.value == 0 {
-        return Meant { order, value: 1 };
-    }
     Meant {
-        order,
-        value: c.value,
+        order: usize::from(m) % 1000 % ORDERS,
+        value: if c.value == 0 { 1 } else { c.value },
     }
 }
 
@@ -82,11 +76,8 @@ fn compound(stem: &[u8]) -> Meant
 pub fn last(stem: &[u8]) -> Meant
     ensures { (result.order ≡ stem_order stem.now) × (result.value ≡ stem_value stem.now) × (result.order < 22) × (result.value < 1000) }
 {
-    let n = stem.len();
-    if 0 < n {
-        if stem[n - 1] == ADJECTIVE {
-            return compound(stem);
-        }
+    if stem.last() == Some(&ADJECTIVE) {
+        return compound(stem);
     }
     let t = tokens::first(stem);
     let m = uk_ordinal_meanings::meaning(t.key);

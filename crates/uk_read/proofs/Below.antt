@@ -13,7 +13,7 @@ use Rattle.base.specs.Join.{Word}
 use Rattle.figures.specs.Groups.{Groups}
 use Rattle.groups.specs.Highest.{ZeroFrom}
 use Rattle.groups.proofs.Highest.{zeros_all, zeros_then, zeros_past}
-use Rattle.plan.proofs.Laws.{from, from_is}
+use Rattle.std.proofs.lemmas.List.{take_rest}
 use Rattle.tokens.specs.Tokens.{split}
 use Rattle.uk_read.specs.Reading.{taken, sums, left}
 use Rattle.uk_read.proofs.Falls.{sums_length}
@@ -98,10 +98,10 @@ module _ (xs : List ℕ) (k : ℕ) (z : take k xs ≡ zeros k) where
 
 -- the code's answer where there is no group below order k
 pub no_groups : (s xs : List ℕ) (k : ℕ) → take k xs ≡ zeros k → k ≤ (taken 0 (split s)).order
-    → ((xs ≡ sums k (split s) ++ drop k xs) × (Groups xs → Groups xs)) × (((split (drop 0 s) ≡ left k (split s)) × (0 ≤ length s)) × (ZeroFrom (sums k (split s)) 0 × (0 ≤ k)))
+    → ((xs ≡ sums k (split s) ++ drop k xs) × (Groups xs → Groups xs)) × ((split s ≡ left k (split s)) × (0 ≤ length s)) × (ZeroFrom (sums k (split s)) 0 × (0 ≤ k))
 no_groups s xs k z h =
     let n = none_below (split s) k h in
-    ((sym (rw n.0 (split_at xs k z)), λ q. q), ((sym n.1, omega arith), (rw n.0 (zeros_all k), omega arith)))
+    ((sym (rw n.0 (split_at xs k z)), λ q. q), (sym n.1, omega arith), (rw n.0 (zeros_all k), omega arith))
 
 -- a group below 1000 set among such groups
 pub set_groups : (xs : List ℕ) (i v : ℕ) → v < 1000 → Groups xs → Groups (set xs i v)
@@ -112,24 +112,24 @@ set_groups (x ∷ xs) (suc i) v h g = (g.0, set_groups xs i v h g.1)
 -- the code's answer: a group taken of the text s, and those below it of the part behind it
 module _ (s xs ys : List ℕ) (k o v at n : ℕ) (z : take k xs ≡ zeros k) (h : o < k) where
   pub reads_below : v ≡ (taken 0 (split s)).value → o ≡ (taken 0 (split s)).order → split (drop at s) ≡ (taken 0 (split s)).rest
-      → ys ≡ sums o (split (from at s)) ++ drop o (set xs o v) → ys ≡ sums k (split s) ++ drop k xs
+      → ys ≡ sums o (split (take (length s - at) (drop at s))) ++ drop o (set xs o v) → ys ≡ sums k (split s) ++ drop k xs
   reads_below a b c e =
       let w = split s in
       let q : suc (o + (k - suc o)) ≡ k = omega arith in
-      let r : split (from at s) ≡ (taken 0 w).rest = ap split (from_is at s) ∙ c in
+      let r : split (take (length s - at) (drop at s)) ≡ (taken 0 w).rest = ap split (take_rest s at) ∙ c in
       let p : sums k w ≡ sums o (taken 0 w).rest ++ ((taken 0 w).value ∷ zeros (k - suc o)) =
       ap (λ (i : ℕ). sums i w) (sym q) ∙ (one_below w o (k - suc o) (sym b)).0 in
       e ∙ ap (λ (t : List Word). sums o t ++ drop o (set xs o v)) r ∙ set_reads xs k z o v (sums o (taken 0 w).rest) h (holds xs k z) (sums_length o (taken 0 w).rest)
       ∙ ap (λ (i : ℕ). (sums o (taken 0 w).rest ++ (i ∷ zeros (k - suc o))) ++ drop k xs) a ∙ ap (λ (t : List ℕ). t ++ drop k xs) (sym p)
 
-  pub left_below : o ≡ (taken 0 (split s)).order → split (drop at s) ≡ (taken 0 (split s)).rest → split (drop n (from at s)) ≡ left o (split (from at s))
+  pub left_below : o ≡ (taken 0 (split s)).order → split (drop at s) ≡ (taken 0 (split s)).rest → split (drop n (take (length s - at) (drop at s))) ≡ left o (split (take (length s - at) (drop at s)))
       → split (drop (at + n) s) ≡ left k (split s)
   left_below b c e =
       let w = split s in
       let q : suc (o + (k - suc o)) ≡ k = omega arith in
-      let r : split (from at s) ≡ (taken 0 w).rest = ap split (from_is at s) ∙ c in
+      let r : split (take (length s - at) (drop at s)) ≡ (taken 0 w).rest = ap split (take_rest s at) ∙ c in
       let p : left k w ≡ left o (taken 0 w).rest = ap (λ (i : ℕ). left i w) (sym q) ∙ (one_below w o (k - suc o) (sym b)).1 in
-      ap split (sym (drop-drop n at s)) ∙ ap (λ (t : List ℕ). split (drop n t)) (sym (from_is at s)) ∙ e ∙ ap (left o) r ∙ sym p
+      ap split (sym (drop-drop n at s)) ∙ ap (λ (t : List ℕ). split (drop n t)) (sym (take_rest s at)) ∙ e ∙ ap (left o) r ∙ sym p
 
 pub zeros_groups : (k : ℕ) → Groups (zeros k)
 zeros_groups zero = tt
@@ -143,8 +143,14 @@ pub record All (ws : List Word) (gs : List ℕ) (n : ℕ) : Type 0 where
   pub few : n ≤ length gs
   pub above : ZeroFrom gs n
 
-pub all_read : (ws : List Word) (xs ys : List ℕ) (n : ℕ) → xs ≡ zeros 22 → ys ≡ sums 22 ws ++ drop 22 xs → (Groups xs → Groups ys) → ZeroFrom (sums 22 ws) n → n ≤ 22 → All ws ys n
-all_read ws xs ys n z e g a f =
-    let q : ys ≡ sums 22 ws = e ∙ ap (λ (l : List ℕ). sums 22 ws ++ drop 22 l) z ∙ append-nil (sums 22 ws) in
-    let l : length ys ≡ 22 = ap length q ∙ sums_length 22 ws in
+-- the code reads them of a text
+pub all_made : (s xs ys : List ℕ) (n : ℕ) → xs ≡ zeros 22 → ys ≡ sums 22 (split s) ++ drop 22 xs → (Groups xs → Groups ys) → ZeroFrom (sums 22 (split s)) n → n ≤ 22 → All (split s) ys n
+all_made s xs ys n z e g a f =
+    let q : ys ≡ sums 22 (split s) = e ∙ ap (λ (l : List ℕ). sums 22 (split s) ++ drop 22 l) z ∙ append-nil _ in
+    let l : length ys ≡ 22 = ap length q ∙ sums_length 22 (split s) in
     record { size = l; small = g (rw z (zeros_groups 22)); groups = q; few = omega arith; above = rw q a }
+
+-- the code reads them of the part of the text s from a place on
+pub all_read : (s xs ys : List ℕ) (at n : ℕ) (ws : List Word) → split (drop at s) ≡ ws → xs ≡ zeros 22 → ys ≡ sums 22 (split (take (length s - at) (drop at s))) ++ drop 22 xs
+    → (Groups xs → Groups ys) → ZeroFrom (sums 22 (split (take (length s - at) (drop at s)))) n → n ≤ 22 → All ws ys n
+all_read s xs ys at n ws w z e g a f = rw (take_rest s at, w) at (all_made (take (length s - at) (drop at s)) xs ys n z e g a f)

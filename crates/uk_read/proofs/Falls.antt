@@ -12,7 +12,7 @@ use lib.Dec.{eqb, ltb}
 use lib.ListN.{length, length-append}
 use Rattle.base.specs.Join.{Word}
 use Rattle.figures.specs.Groups.{total, Groups}
-use Rattle.settings.specs.declared.Settings.{Settings}
+use Rattle.settings.specs.Settings.{Settings}
 use Rattle.cardinals.specs.Grammar.{Falling, end, skip, group}
 use Rattle.uk.specs.Ukrainian.{ukrainian}
 use Rattle.uk_read.specs.Reading.{mean, Taken, taken, sums, left}

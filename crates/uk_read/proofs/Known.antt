@@ -15,7 +15,7 @@ use Rattle.tokens.proofs.Words.{is_word}
 use Rattle.meanings.specs.Lookup.{lookup}
 use Rattle.uk_meanings.specs.Meanings.{shifts, table, meaning_of}
 use Rattle.settings.specs.Settings.{ukrainian_settings, ukrainian_ranges, Within}
-use Rattle.settings.specs.declared.Settings.{Settings}
+use Rattle.settings.specs.Settings.{Settings}
 use Rattle.uk.specs.UkTables.{zeros, gendered, units, teens_bases, teens_flexions, tens, hundreds, thousand_flexions, mega_bases, mega_flexions}
 use Rattle.uk.specs.Apostrophes.{by_apostrophe1, by_apostrophe2}
 use Rattle.uk.specs.Rules.{DigitWords}

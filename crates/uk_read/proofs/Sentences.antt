@@ -9,7 +9,7 @@ use borrow.Author.Tests.{eq-eqb, ne_eqb}
 use Rattle.base.specs.Join.{Word}
 use Rattle.figures.specs.Groups.{total}
 use Rattle.tokens.proofs.Words.{Separable}
-use Rattle.settings.specs.declared.Settings.{Settings}
+use Rattle.settings.specs.Settings.{Settings}
 use Rattle.cardinals.specs.Grammar.{Falling, end, skip, group, Sentence, nought, unmarked, marked}
 use Rattle.uk.specs.Rules.{DigitWords, opt, low_words, num_words}
 use Rattle.uk.specs.Ukrainian.{at_order, ukrainian_digits, scale_noun, noun_words, ukrainian_group, ukrainian}

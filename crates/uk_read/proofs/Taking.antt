@@ -7,7 +7,7 @@ use native.Mathlib.Nat.{mod-eq_of_lt}
 use native.Mathlib.Omega.{arith}
 use borrow.Author.Tests.{eq-eqb, ne_eqb, lt-ltb, le-ltb}
 use Rattle.base.specs.Join.{Word}
-use Rattle.settings.specs.declared.Settings.{Settings}
+use Rattle.settings.specs.Settings.{Settings}
 use Rattle.uk.specs.Rules.{DigitWords, opt, low_words, num_words}
 use Rattle.uk.specs.Ukrainian.{at_order, ukrainian_digits, scale_noun, noun_words, ukrainian_group, ukrainian}
 use Rattle.uk_read.specs.Reading.{mean, Taken, taken}

@@ -2,66 +2,73 @@
 -- Assumes nothing.
 use Prim.Native.Nat.{ℕ, ◌+◌, ◌-◌, ◌%◌, ◌<◌, ◌≤◌}
 use mathlib.Core.Path.{◌≡◌, refl, sym, ◌∙◌, ap}
-use mathlib.Core.Bool.{not}
+use mathlib.Core.Bool.{Bool, true, false}
 use mathlib.Core.List.{List, [], ◌∷◌}
 use native.Mathlib.Omega.{arith}
 use borrow.Author.Tests.{eq-eqb, ne_eqb, lt-ltb, le-ltb}
-use lib.Dec.{eqb}
-use lib.ListN.{length, drop, length-drop, drop_of_length-le}
+use lib.ListN.{length, take, drop, length-drop, drop_of_length-le}
 use lib.Seq.{drop-drop}
-use Rattle.base.specs.Join.{Word}
-use Rattle.plan.proofs.Laws.{from, from_is}
-use Rattle.tokens.specs.Tokens.{first_word, after_word, split}
+use Rattle.std.proofs.lemmas.List.{take_rest}
+use Rattle.tokens.specs.Tokens.{first_word, split, Took}
 use Rattle.tokens.proofs.Words.{split_first}
+use Rattle.uk_meanings.specs.Meanings.{meaning_of}
 use Rattle.uk_read.specs.Reading.{mean, taken, signed, after_minus}
 use Rattle.uk_read.proofs.Taking.{closed}
 
--- the word at a place, and the words behind it
-pub word_at_lem : (s : List ℕ) (at next : ℕ) → at < length s → drop next (from at s) ≡ after_word (from at s)
-    → split (drop at s) ≡ first_word (from at s) ∷ split (drop (at + next) s)
-word_at_lem s at next h e =
-    let l : 0 < length (drop at s) = rw length-drop (omega arith) in
-    let f : drop next (drop at s) ≡ after_word (drop at s) = rw (from_is at s) at e in
-    let g : first_word (drop at s) ≡ first_word (from at s) = ap first_word (sym (from_is at s)) in
-    split_first (drop at s) l ∙ rw (g, ← f, drop-drop) refl
+-- the word at a place of a text: its meaning m, the words behind it, and where these start
+pub record Looked (s : List ℕ) (at next m : ℕ) : Type 0 where
+  pub means : m ≡ mean (first_word (drop at s))
+  pub words : split (drop at s) ≡ first_word (drop at s) ∷ split (drop (at + next) s)
+  pub within : at + next ≤ length s
+  pub moves : 0 < next
 
-module _ (v m : ℕ) (w : Word) (ws : List Word) (e : m ≡ mean w) where
-  pub stopped : m ≡ 0 → taken v (w ∷ ws) ≡ closed v 0 (w ∷ ws)
-  unfolding taken
-  stopped z = rw (eq-eqb (mean w) 0 (sym e ∙ z)) refl
+pub looked : (s : List ℕ) (at k next m : ℕ) → at < length s → Took (take (length s - at) (drop at s)) k next → m ≡ meaning_of k → Looked s at next m
+looked s at k next m h t e =
+    let w : Took (drop at s) k next = rw (← take_rest s at) t in
+    let l = length-drop at s in
+    record {
+      means = e ∙ ap meaning_of w.0;
+      words = split_first (drop at s) (omega arith) ∙ rw (← w.1, drop-drop) refl;
+      within = omega (arith, w.2);
+      moves = w.3 (omega arith);
+    }
 
-  pub scaled : (m ≡ 0 → ⊥) → 999 < m → taken v (w ∷ ws) ≡ closed v (m - 1000) ws
+module _ {s : List ℕ} {at next m : ℕ} (k : Looked s at next m) (v : ℕ) where
+  pub stopped : m ≡ 0 → taken v (split (drop at s)) ≡ closed v 0 (split (drop at s))
   unfolding taken
-  scaled z h = rw (sym e, ne_eqb m 0 z, lt-ltb 999 m h) refl
+  stopped z = rw (k.words, eq-eqb (mean (first_word (drop at s))) 0 (sym k.means ∙ z)) refl
 
-  pub added : (m ≡ 0 → ⊥) → m ≤ 999 → taken v (w ∷ ws) ≡ taken ((v + m) % 1000) ws
+  pub scaled : (m ≡ 0 → ⊥) → 999 < m → taken v (split (drop at s)) ≡ closed v (m - 1000) (split (drop (at + next) s))
   unfolding taken
-  added z h = rw (sym e, ne_eqb m 0 z, le-ltb 999 m h) refl
+  scaled z l = rw (k.words, sym k.means, ne_eqb m 0 z, lt-ltb 999 m l) refl
+
+  pub added : (m ≡ 0 → ⊥) → m ≤ 999 → taken v (split (drop at s)) ≡ taken ((v + m) % 1000) (split (drop (at + next) s))
+  unfolding taken
+  added z l = rw (k.words, sym k.means, ne_eqb m 0 z, le-ltb 999 m l) refl
 
 pub ended : (s : List ℕ) (at v : ℕ) → length s ≤ at → taken v (split (drop at s)) ≡ closed v 0 (split (drop at s))
 unfolding taken split
 ended s at v h = rw (drop_of_length-le s {i = at} h) refl
 
--- the sign
-abbrev pub SignAt : ℕ → List ℕ → Type 0
-SignAt r s = (eqb r 0 ≡ not (signed (split s))) × (split (drop r s) ≡ after_minus (split s)) × (r ≤ length s)
+-- the sign: whether it stands there, and what is behind r bytes
+abbrev pub Sign : Bool → ℕ → List ℕ → Type 0
+Sign b r s = (b ≡ signed (split s)) × (split (drop r s) ≡ after_minus (split s)) × (r ≤ length s)
 
-pub sign_none : (s : List ℕ) → length s ≡ 0 → SignAt 0 s
+pub sign_none : (s : List ℕ) → length s ≡ 0 → Sign false 0 s
 unfolding split
 sign_none [] h = (refl, refl, omega arith)
 sign_none (b ∷ s) h = absurd (omega arith)
 
-module _ (s : List ℕ) (m next : ℕ) (h : length s ≡ 0 → ⊥) (e : m ≡ mean (first_word s)) where
-  words : split s ≡ first_word s ∷ split (after_word s)
-  words = split_first s (omega arith)
+module _ (s : List ℕ) (k next m : ℕ) (h : length s ≡ 0 → ⊥) (t : Took s k next) (e : m ≡ meaning_of k) where
+  first : split s ≡ first_word s ∷ split (drop next s)
+  first = split_first s (omega arith) ∙ rw (← t.1) refl
 
-  pub sign_some : m ≡ 2001 → drop next s ≡ after_word s → next ≤ length s → (0 < length s → 0 < next) → SignAt next s
-  sign_some q d l p =
-      let f : mean (first_word s) ≡ 2001 = sym e ∙ q in
-      let n : 0 < next = p (omega arith) in
-      rw (words, f, ne_eqb next 0 (λ z. omega arith), d) (refl, refl, l)
+  pub sign_some : m ≡ 2001 → Sign true next s
+  sign_some q =
+      let f : mean (first_word s) ≡ 2001 = sym (ap meaning_of t.0) ∙ sym e ∙ q in
+      rw (first, f) (refl, refl, t.2)
 
-  pub sign_other : (m ≡ 2001 → ⊥) → SignAt 0 s
+  pub sign_other : (m ≡ 2001 → ⊥) → Sign false 0 s
   sign_other q =
-      let f : mean (first_word s) ≡ 2001 → ⊥ = λ z. q (e ∙ z) in
-      rw (words, ne_eqb (mean (first_word s)) 2001 f) (refl, refl, omega arith)
+      let f : mean (first_word s) ≡ 2001 → ⊥ = λ z. q (e ∙ ap meaning_of t.0 ∙ z) in
+      rw (first, ne_eqb (mean (first_word s)) 2001 f) (refl, refl, omega arith)

@@ -1,20 +1,19 @@
 #![tactic(auto)]
 // The reader of Ukrainian cardinals. It takes any bytes word by word, makes a sign and groups of them, and compares the words that these have
 // under the settings, planned as the speller plans them, with the bytes.
-ghost use Rattle.std.specs.Prelude.{◌≡◌, not, ◌++◌, ◌+◌, ◌≤◌, ◌<◌, eqb, length, take, drop, replicate};
-ghost use Rattle.settings.specs.Settings.{ukrainian_ranges, Within};
+ghost use Rattle.std.specs.Prelude.{◌≡◌, ◌++◌, ◌+◌, ◌≤◌, ◌<◌, length, take, drop, replicate, IfSome, is_some, unwrap_or};
+ghost use Rattle.settings.specs.Chosen.{numbers_of};
 ghost use Rattle.figures.specs.Groups.{Groups};
-ghost use Rattle.figures.specs.Seen.{ReadOf};
-ghost use Rattle.groups.specs.Highest.{ZeroFrom, Highest};
+ghost use Rattle.groups.specs.Read.{ReadOf};
+ghost use Rattle.groups.specs.Highest.{ZeroFrom};
 ghost use Rattle.tokens.specs.Tokens.{split};
 ghost use Rattle.uk.specs.Ukrainian.{ukrainian};
 ghost use Rattle.cardinals.specs.Grammar.{Says};
 ghost use Rattle.uk_read.specs.Reading.{taken, sums, left, signed, after_minus};
 
-use figures::Read;
-use settings::Settings;
+use groups::{Figure, Number};
+use settings::Ukrainian;
 use uk::ORDERS;
-use uk_plan::PLAN;
 
 // What words mean: a number word at most the first of these, a scale noun its order and the second, the minus word the third.
 const MOST: u16 = 999;
@@ -45,6 +44,7 @@ fn first_group(s: &[u8]) -> Group
 {
     let mut value: u16 = 0;
     let mut at: usize = 0;
+    // Not a `for`: where the next word starts is known only once this one was looked up.
     while at < s.len() {
         let t = tokens::first(&s[at..]);
         let m = uk_meanings::meaning(t.key);
@@ -57,7 +57,7 @@ fn first_group(s: &[u8]) -> Group
         }
         let next = at + t.next;
         if MOST < m {
-            let order = (m - SCALE) as usize;
+            let order = usize::from(m - SCALE);
             return Group { value, order, next };
         }
         value = (value + m) % 1000;
@@ -101,33 +101,32 @@ pub fn groups(k: usize, s: &[u8], out: &mut [u16; ORDERS]) -> Span
     }
 }
 
-// How many bytes the minus word at the front of a text has with the space behind it; 0 where there is none.
-fn minus(s: &[u8]) -> usize
-    ensures { (eqb result 0 ≡ not (signed (split s.now))) × (split (drop result s.now) ≡ after_minus (split s.now)) × (result ≤ length s.now) }
+// How many bytes the minus word at the front of a text has with the space behind it, if it stands there.
+fn minus(s: &[u8]) -> Option<usize>
+    ensures found { is_some result ≡ signed (split s.now) }
+    ensures passed { (split (drop (unwrap_or result 0) s.now) ≡ after_minus (split s.now)) × (unwrap_or result 0 ≤ length s.now) }
 {
-    if s.len() == 0 {
-        return 0;
+    if s.is_empty() {
+        return None;
     }
     let t = tokens::first(s);
     if uk_meanings::meaning(t.key) == MINUS {
-        return t.next;
+        Some(t.next)
+    } else {
+        None
     }
-    0
 }
 
-// Any bytes, under these settings: what they are by the grammar, with the groups in out.
-pub fn read_cardinal(settings: Settings, s: &[u8], out: &mut [u16; ORDERS]) -> Read
-    requires { Within (ukrainian_ranges settings) × (out.old ≡ replicate 22 0) }
-    ensures read_of { ReadOf (Says (ukrainian settings) s.now) result.seen out.new × Groups out.new × (length out.new ≡ 22) }
-    ensures highest { Highest out.new result.orders }
+// Any bytes, under these settings: what they are by the grammar.
+pub fn read_cardinal(settings: Ukrainian, s: &[u8]) -> Option<Figure<ORDERS>>
+    ensures { ReadOf (Says (ukrainian (numbers_of settings)) s.now) result }
 {
-    let m = minus(s);
-    let span = groups(ORDERS, &s[m..], out);
-    let n = groups::top(span.orders, out);
-    let zero = n == 0;
-    let mut plan = [0u32; PLAN];
-    let k = uk_plan::plan_cardinal(settings, zero, 0 < m, n, out, &mut plan);
-    let stands = uk::stands(&plan[..k], s);
-    let seen = figures::seen_of(stands, zero, 0 < m);
-    Read { seen, orders: n }
+    let sign = minus(s);
+    let start = sign.unwrap_or(0);
+    let mut gs = [0u16; ORDERS];
+    let span = groups(ORDERS, &s[start..], &mut gs);
+    let number = Number::of_groups(gs, span.orders);
+    let plan = uk_plan::plan_cardinal(settings, sign.is_some(), &number);
+    let stands = uk::stands(plan.codes(), s);
+    Figure::read(number, sign.is_some(), stands)
 }

@@ -5,11 +5,17 @@ use mathlib.Core.Path.{◌≡◌, refl, sym, ap, ◌∙◌}
 use mathlib.Core.Bool.{Bool, true, false, cond}
 use mathlib.Core.List.{List, [], ◌∷◌}
 use native.Mathlib.Omega.{arith}
-use lib.ListN.{length, take, drop, length-drop, drop_of_length-le}
-use lib.Seq.{take_all, drop-drop}
+use borrow.Author.Tests.{ltb-true, ltb-false}
+use lib.Dec.{ltb}
+use lib.ListN.{length, drop, length-drop, drop_of_length-le}
+use lib.Seq.{drop-drop}
+use Rattle.std.specs.Prelude.{Some, None}
 use Rattle.tokens.specs.Tokens.{is_gap, first_word, after_word, full_key, key}
 use Rattle.tokens.specs.declared.Token.{Token}
-use Rattle.walker.specs.Walk.{span, word_at}
+use Rattle.walker.specs.declared.Walker.{Walker}
+use Rattle.walker.specs.declared.Step.{Step}
+use Rattle.walker.specs.Step.{step_of}
+use Rattle.walker.specs.Walk.{span, word_at, found}
 
 -- what is behind a text's first word is shorter
 behind_le : (s : List ℕ) → length (after_word s) ≤ length s
@@ -41,23 +47,27 @@ passed (b ∷ s) = go (is_gap b) (behind_le s) (passed s)
     go true h e = let n : suc (length s) - length s ≡ 1 = omega arith in rw n refl
     go false h e = let n : suc (length s) - length (after_word s) ≡ suc (span s) = omega arith in rw n e
 
--- a token is its fields
-token : (t : Token) (k n : ℕ) → t.key ≡ k → t.next ≡ n → t ≡ record { key = k; next = n }
-token t k n e f = rw (sym e, sym f) refl
+-- a word that is found stands there; and none stands past the end
+pub found_some : (s : List ℕ) (at : ℕ) (t : Token) → Some t ≡ found s at → (t ≡ word_at s at) × (at < length s)
+found_some s at t e = go (ltb at (length s)) refl e
+  where
+    go : (b : Bool) → ltb at (length s) ≡ b → Some t ≡ cond b (Some (word_at s at)) None → (t ≡ word_at s at) × (at < length s)
+    go true f g = (cc, ltb-true at (length s) f)
+    go false f g = cc
 
--- the first word of the part of a text from a place on
-pub word_here : (s : List ℕ) (at : ℕ) (t : Token) → t.key ≡ key (first_word (take (length s - at) (drop at s)))
-    → drop t.next (take (length s - at) (drop at s)) ≡ after_word (take (length s - at) (drop at s)) → t.next ≤ length (take (length s - at) (drop at s))
-    → t ≡ word_at s at
-word_here s at t e f l =
-    let d : take (length s - at) (drop at s) ≡ drop at s = take_all (length s - at) (drop at s) (rw length-drop (omega arith)) in
-    let n : length (drop at s) - t.next ≡ length (after_word (drop at s)) = sym (length-drop t.next (drop at s)) ∙ ap length (rw d at f) in
-    let m : t.next ≤ length (drop at s) = rw d at l in
-    token t (key (first_word (drop at s))) (span (drop at s)) (rw d at e) (omega arith)
+pub found_none : (s : List ℕ) (at : ℕ) → None ≡ found s at → length s ≤ at
+found_none s at e = go (ltb at (length s)) refl e
+  where
+    go : (b : Bool) → ltb at (length s) ≡ b → None ≡ cond b (Some (word_at s at)) None → length s ≤ at
+    go true f g = cc
+    go false f g = ltb-false at (length s) f
 
-pub word_none : (s : List ℕ) (at : ℕ) → length s ≤ at → record { key = 62; next = 0 } ≡ word_at s at
+-- past a phrase's end a walker stays
+pub stays : (w : Walker) → length w.phrase.now ≤ w.at → record { key = 62; rest = w } ≡ step_of w
 unfolding first_word after_word full_key key
-word_none s at h = let d = drop_of_length-le s {i = at} h in rw d refl
+stays w h =
+    let here : ℕ → Step = λ n. record { key = 62; rest = record { phrase = w.phrase; at = n } } in
+    rw (drop_of_length-le w.phrase.now {i = w.at} h) (ap here {x = w.at} (omega arith))
 
 -- a step of a walk goes on, within the phrase, to what is behind the word
 module _ (s : List ℕ) (at : ℕ) where

@@ -1,9 +1,8 @@
 -- What a walker finds at a place of a phrase.
 -- Assumes nothing.
-use Rattle.std.specs.Prelude.{ℕ, ◌-◌, Bool, List, ltb, length, drop}
+use Rattle.std.specs.Prelude.{ℕ, ◌-◌, Bool, cond, Option, Some, None, List, ltb, length, drop}
 use Rattle.tokens.specs.Tokens.{first_word, after_word, key}
 use Rattle.tokens.specs.declared.Token.{Token}
-use Rattle.walker.specs.declared.Found.{Found}
 
 -- whether a word stands at this place
 abbrev pub follows : List ℕ → ℕ → Bool
@@ -17,6 +16,6 @@ span s = length s - length (after_word s)
 abbrev pub word_at : List ℕ → ℕ → Token
 word_at s at = record { key = key (first_word (drop at s)); next = span (drop at s) }
 
--- both in one
-abbrev pub found : List ℕ → ℕ → Found
-found s at = record { more = follows s at; key = (word_at s at).key; next = (word_at s at).next }
+-- the same, where one stands there
+abbrev pub found : List ℕ → ℕ → Option Token
+found s at = cond (follows s at) (Some (word_at s at)) None

@@ -1,9 +1,8 @@
 #![tactic(auto)]
 // A phrase walked word by word: a struct that holds the phrase and a place in it, as the source's `split_whitespace().peekable()` does.
-// The functions over the struct are thin: each takes it apart and leaves the work to a function of a plain slice.
 // A walker is a value: moving on gives another one, which stands behind the word.
-ghost use Rattle.std.specs.Prelude.{◌≡◌, ◌+◌, ◌<◌, ◌^◌};
-ghost use Rattle.walker.specs.Walk.{follows, word_at, found};
+ghost use Rattle.std.specs.Prelude.{◌≡◌};
+ghost use Rattle.walker.specs.Walk.{follows, found};
 ghost use Rattle.walker.specs.Step.{step_of};
 
 use tokens::Token;
@@ -21,72 +20,50 @@ pub struct Step<'a> {
     pub rest: Walker<'a>,
 }
 
-// What a walker finds at its place: whether a word stands there, the word's key, and how many bytes it and the gap behind it have.
-#[derive(Clone, Copy)]
-pub struct Found {
-    pub more: bool,
-    pub key: u32,
-    pub next: usize,
-}
-
-// The work of `peek`.
-fn follows_at(s: &[u8], at: usize) -> bool
-    ensures { result ≡ follows s.now at }
-{
-    at < s.len()
-}
-
-// The work of `next`. Past the end of the phrase the word is empty. `next` adds up the two numbers, so their sum has to fit.
-fn word_at(s: &[u8], at: usize) -> Token
-    ensures { (result ≡ word_at s.now at) × (at + result.next < 2 ^ 64) }
-{
-    if at < s.len() {
-        return tokens::first(&s[at..]);
+impl<'a> Walker<'a> {
+    // A walker at a place of a phrase.
+    pub fn new(phrase: &'a [u8], at: usize) -> Walker<'a>
+        ensures { (result.phrase ≡ phrase.entry) × (result.at ≡ at) }
+    {
+        Walker { phrase, at }
     }
-    Token {
-        key: tokens::EMPTY,
-        next: 0,
+
+    // Whether a word follows.
+    pub fn peek(self) -> bool
+        ensures { result ≡ follows self.entry.phrase.now self.entry.at }
+    {
+        self.at < self.phrase.len()
     }
-}
 
-// A walker at a place of a phrase.
-pub fn start<'a>(phrase: &'a [u8], at: usize) -> Walker<'a>
-    ensures { (result.phrase ≡ phrase.entry) × (result.at ≡ at) }
-{
-    Walker { phrase, at }
-}
-
-// Whether a word follows.
-pub fn peek<'a>(w: Walker<'a>) -> bool
-    ensures { result ≡ follows w.entry.phrase.now w.entry.at }
-{
-    follows_at(w.phrase, w.at)
-}
-
-// The word that follows, and the walker behind it.
-pub fn next<'a>(w: Walker<'a>) -> Step<'a>
-    ensures { result ≡ step_of w.entry }
-{
-    let t = word_at(w.phrase, w.at);
-    Step {
-        key: t.key,
-        rest: Walker {
-            phrase: w.phrase,
-            at: w.at + t.next,
-        },
+    // The word that follows, and the walker behind it. Past the end of the phrase the word is empty.
+    pub fn next(self) -> Step<'a>
+        ensures { result ≡ step_of self.entry }
+    {
+        if !self.peek() {
+            return Step {
+                key: tokens::EMPTY,
+                rest: self,
+            };
+        }
+        let word = tokens::first(&self.phrase[self.at..]);
+        Step {
+            key: word.key,
+            rest: Walker::new(self.phrase, self.at + word.next),
+        }
     }
 }
 
-// One step of a walk, with how far the walker went, for callers that have none: their proofs stay with plain slices.
-pub fn word(phrase: &[u8], at: usize) -> Found
+// The word at a place of a phrase, for callers that have no walker: their proofs stay with plain slices.
+pub fn word(phrase: &[u8], at: usize) -> Option<Token>
     ensures { result ≡ found phrase.now at }
 {
-    let w = start(phrase, at);
-    let more = peek(w);
-    let n = next(w);
-    Found {
-        more,
-        key: n.key,
-        next: n.rest.at - at,
+    let walker = Walker::new(phrase, at);
+    if !walker.peek() {
+        return None;
     }
+    let step = walker.next();
+    Some(Token {
+        key: step.key,
+        next: step.rest.at - at,
+    })
 }

@@ -1,11 +1,12 @@
 -- The extent of a text from the counts of its pool's spaces.
 -- Assumes nothing.
-use Prim.Native.Nat.{ℕ, zero, suc, ◌+◌, ◌-◌, ◌*◌, ◌/◌, ◌%◌, ◌≤◌, ◌<◌}
+use Prim.Native.Nat.{ℕ, zero, suc, ◌+◌, ◌-◌, ◌*◌, ◌/◌, ◌%◌, ◌≤◌, ◌<◌, min}
 use mathlib.Core.Path.{◌≡◌, refl, sym, ap, ◌∙◌}
 use mathlib.Core.List.{List, [], ◌∷◌, ◌++◌}
 use native.Mathlib.Omega.{arith}
-use lib.ListN.{length, get_or, take, drop, length-append, length-take, length-drop, drop_of_length-le}
-use lib.Seq.{take-add, take_all, take-nil}
+use lib.ListN.{length, get_or, take, drop, length-append, length-take, length-drop}
+use lib.Seq.{take-add}
+use Rattle.std.proofs.lemmas.List.{drop_min, take_min}
 use Rattle.base.specs.Measure.{spaces}
 use Rattle.base.proofs.Measures.{spaces_append}
 use Rattle.words.specs.Part.{part}
@@ -53,7 +54,7 @@ module _ {pool : List ℕ} {unspaced : ℕ} {counts : List ℕ} (c : SpacesCount
     sized = rw (length-take (e - a) (drop a pool), length-drop a pool) (omega (arith, counted_length, c.within));
   }
 
-  -- a text among the first bytes; one behind the pool; one that the pool's end cuts off; any other
+  -- a text among the first bytes; and any other: one that the pool's end cuts off ends there, and one behind the pool is empty
   pub unspaced_extent : (x : Extent) (p : ℕ) → 2 * (p / 40) + p % 40 ≤ unspaced → x.spaces ≡ 0 → x.length ≡ p % 40 → Extends (part pool p) x
   unfolding part
   unspaced_extent x p h s l =
@@ -64,23 +65,15 @@ module _ {pool : List ℕ} {unspaced : ℕ} {counts : List ℕ} (c : SpacesCount
         sized = rw (length-take (p % 40) (drop (2 * (p / 40)) pool), length-drop (2 * (p / 40)) pool) (omega (arith, c.within));
       }
 
-  pub no_extent : (x : Extent) (p : ℕ) → unspaced + (length counts - 1) ≤ 2 * (p / 40) → x.spaces ≡ 0 → x.length ≡ 0 → Extends (part pool p) x
-  unfolding part spaces
-  no_extent x p h s l =
-      let e : drop (2 * (p / 40)) pool ≡ [] = drop_of_length-le pool {i = 2 * (p / 40)} (omega (arith, counted_length, c.within)) in
-      rw (e, take-nil (p % 40)) (record { spaced = s; sized = l })
-
-  pub cut_extent : (x : Extent) (p : ℕ) → unspaced + (length counts - 1) < 2 * (p / 40) + p % 40
-      → Extends (take (unspaced + (length counts - 1) - 2 * (p / 40)) (drop (2 * (p / 40)) pool)) x → Extends (part pool p) x
+  pub placed_extent : (x : Extent) (p a e : ℕ) → a ≡ min (2 * (p / 40)) e → e ≡ min (2 * (p / 40) + p % 40) (unspaced + (length counts - 1))
+      → Extends (take (e - a) (drop a pool)) x → Extends (part pool p) x
   unfolding part
-  cut_extent x p h r =
-      let l = length-drop (2 * (p / 40)) pool in
+  placed_extent x p a e f g r =
       let d = drop (2 * (p / 40)) pool in
-      rw (take_all (p % 40) d (omega (arith, l, counted_length, c.within)), ← take_all (unspaced + (length counts - 1) - 2 * (p / 40)) d (omega (arith, l, counted_length, c.within))) r
-
-  pub whole_extent : (x : Extent) (p : ℕ) → Extends (take (2 * (p / 40) + p % 40 - 2 * (p / 40)) (drop (2 * (p / 40)) pool)) x → Extends (part pool p) x
-  unfolding part
-  whole_extent x p r = let n : 2 * (p / 40) + p % 40 - 2 * (p / 40) ≡ p % 40 = omega arith in rw n at r
+      let l : length d ≡ length pool - 2 * (p / 40) = length-drop (2 * (p / 40)) pool in
+      let m : e - a ≡ min (p % 40) (length d) = omega (arith, counted_length, c.within) in
+      let b : a ≡ min (2 * (p / 40)) (length pool) = omega (arith, counted_length, c.within) in
+      rw (m, b, drop_min (2 * (p / 40)) pool, take_min (p % 40) d) at r
 
 -- two texts, one after the other
 pub extends_append : {a b : List ℕ} {x y : Extent} (z : Extent) → Extends a x → Extends b y → z.spaces ≡ x.spaces + y.spaces → z.length ≡ x.length + y.length → Extends (a ++ b) z

@@ -1,4 +1,3 @@
-pub mod Stores
 pub mod Pieces
 pub mod Parts
 pub mod Counts

@@ -5,48 +5,19 @@ use mathlib.Core.Path.{◌≡◌, refl, sym, ap, ◌∙◌}
 use mathlib.Core.Bool.{Bool, true, false}
 use mathlib.Core.List.{List, ◌++◌, append_assoc}
 use native.Mathlib.Omega.{arith}
-use borrow.Author.Tests.{eqb-true, eqb-false}
-use lib.Dec.{eqb}
-use lib.ListN.{length, take, drop, length-drop, length-append, take-append-drop}
+use lib.ListN.{length, take, drop, length-drop, take-append-drop}
 use lib.Seq.{length-take-le, take-length, drop-drop, take-add, take-append-le, take-take, drop-append-add, drop-append-le}
 use Rattle.base.specs.Buffer.{over}
 use Rattle.base.specs.Decides.{Decides}
 use Rattle.base.specs.Front.{begins}
 use Rattle.base.proofs.Fronts.{begins_is, begins_own}
-use Rattle.base.specs.Bytes.{num, low_bytes, Bytes}
-use Rattle.base.proofs.Numbers.{digits_take, num_inj, bytes_take, bytes_drop}
 use Rattle.words.specs.Moves.{seg, with}
 
 -- ys is xs with the first k bytes of t over it
 abbrev pub Upto : List ℕ → List ℕ → List ℕ → ℕ → Type 0
 Upto t xs ys k = ys ≡ take k t ++ drop k xs
 
-seg_length : (t : List ℕ) (j k : ℕ) → j + k ≤ length t → length (seg j k t) ≡ k
-seg_length t j k h = length-take-le k (drop j t) (rw (length-drop j t) (omega arith))
-
--- bytes written as the number that they were read as
-pub moved : (t : List ℕ) → Bytes t → (xs ys : List ℕ) (j k x : ℕ) → x ≡ num (seg j k t) → j + k ≤ length t → ys ≡ with j (low_bytes k x) k xs
-    → ys ≡ with j (seg j k t) k xs
-moved t b xs ys j k x e h f =
-    let l = seg_length t j k h in
-    let d : low_bytes k x ≡ seg j k t =
-    ap (low_bytes k) e ∙ digits_take k (seg j k t) (bytes_take k (drop j t) (bytes_drop j t b)) (omega arith) ∙ ap (λ (n : ℕ). take n (seg j k t)) (sym l) ∙ take-length (seg j k t) in
-    rw d at f
-
--- and compared as numbers
-pub told : (t s : List ℕ) → Bytes t → Bytes s → (j k x y : ℕ) → x ≡ num (seg j k s) → y ≡ num (seg j k t) → j + k ≤ length t → j + k ≤ length s
-    → Decides (eqb x y) (seg j k s ≡ seg j k t)
-told t s b u j k x y f g h l = record {
-  holds = λ e. num_inj (seg j k s) (seg j k t) (bytes_take k (drop j s) (bytes_drop j s u)) (bytes_take k (drop j t) (bytes_drop j t b)) (seg_length s j k l ∙ sym (seg_length t j k h)) (sym f ∙ eqb-true x y e ∙ g);
-  fails = λ e p. eqb-false x y e (f ∙ ap num p ∙ sym g);
-}
-
 module _ (t : List ℕ) where
-  -- what is written changes no length
-  pub upto_length : (xs ys : List ℕ) (k : ℕ) → Upto t xs ys k → k ≤ length t → k ≤ length xs → length ys ≡ length xs
-  upto_length xs ys k e g h =
-      ap length e ∙ length-append (take k t) (drop k xs) ∙ rw (length-take-le k t g, length-drop k xs) (omega arith)
-
   -- one more part over what is written
   pub extend : (xs ys zs : List ℕ) (k j m : ℕ) → Upto t xs ys k → zs ≡ with j (seg j m t) m ys → j ≤ k → k ≤ j + m → j + m ≤ length t
       → Upto t xs zs (j + m)

@@ -1,38 +1,27 @@
 #![tactic(auto)]
 // Texts as parts of a pool, which a caller lends: their lengths and spaces, their bytes, and whether a phrase begins with one. Of a text of 8 to 16 bytes
 // two moves are made, which may overlap.
-mod moves; // moves.rt: two, four and eight bytes at a time
+mod moves; // moves.rt: several bytes at a time
 pub mod extents; // extents.rt: length and spaces, without the pool
 
-ghost use Rattle.std.specs.Prelude.{◌≡◌, ◌≤◌, ◌<◌, length, drop};
+ghost use Rattle.std.specs.Prelude.{◌≡◌, ◌≤◌, ◌<◌, length};
 ghost use Rattle.base.specs.Buffer.{over};
 ghost use Rattle.base.specs.Front.{begins as begins_with, passed};
 ghost use Rattle.words.specs.Part.{part as part_of};
 
-use crate::moves::{move2, move4, move8, same2, same4, same8};
+use crate::moves::{move_ends, move_part, same_ends, same_part};
 
 // More bytes than any text has: a place is half of where its text starts, times this, and the text's length.
 pub const LONGER: u32 = 40;
 
-// What is left of a pool from a place on.
-fn rest(pool: &[u8], at: usize) -> &[u8]
-    ensures { result.now ≡ drop at pool.now }
-{
-    if at < pool.len() {
-        &pool[at..]
-    } else {
-        &pool[..0]
-    }
-}
-
-// The text at a place of a pool.
+// The text at a place of a pool; one that the pool's end cuts off is what is left of it.
 pub fn part(pool: &[u8], place: u32) -> &[u8]
     ensures { (result.now ≡ part_of pool.now place) × (length result.now < 40) }
 {
     let a = 2 * (place / LONGER) as usize;
     let e = a + (place % LONGER) as usize;
     if pool.len() < e {
-        return rest(pool, a);
+        return &pool[a.min(pool.len())..];
     }
     &pool[a..e]
 }
@@ -41,8 +30,7 @@ pub fn part(pool: &[u8], place: u32) -> &[u8]
 pub fn len(pool: &[u8], place: u32) -> usize
     ensures { (result ≡ length (part_of pool.now place)) × (result < 40) }
 {
-    let w = part(pool, place);
-    w.len()
+    part(pool, place).len()
 }
 
 // Writes a text of fewer than 8 bytes.
@@ -55,15 +43,11 @@ fn put_short(w: &[u8], out: &mut [u8])
         if n == 1 {
             out[0] = w[0];
         }
-        return;
+    } else if n < 4 {
+        move_ends::<2>(w, out);
+    } else {
+        move_ends::<4>(w, out);
     }
-    if n < 4 {
-        move2(w, 0, out);
-        move2(w, n - 2, out);
-        return;
-    }
-    move4(w, 0, out);
-    move4(w, n - 4, out);
 }
 
 // Writes a text of 8 to 40 bytes: eight at a time, and its last eight. A loop would be made ready for far longer texts.
@@ -72,24 +56,17 @@ fn put_long(w: &[u8], out: &mut [u8])
     ensures { out.new ≡ over out.old w.now }
 {
     let n = w.len();
-    let last = n - 8;
-    move8(w, 0, out);
-    if n <= 16 {
-        move8(w, last, out);
-        return;
+    move_part::<8>(w, 0, out);
+    if 16 < n {
+        move_part::<8>(w, 8, out);
+        if 24 < n {
+            move_part::<8>(w, 16, out);
+            if 32 < n {
+                move_part::<8>(w, 24, out);
+            }
+        }
     }
-    move8(w, 8, out);
-    if n <= 24 {
-        move8(w, last, out);
-        return;
-    }
-    move8(w, 16, out);
-    if n <= 32 {
-        move8(w, last, out);
-        return;
-    }
-    move8(w, 24, out);
-    move8(w, last, out);
+    move_part::<8>(w, n - 8, out);
 }
 
 // Writes a text of at most 40 bytes over the front of out.
@@ -100,9 +77,9 @@ pub fn copy(w: &[u8], out: &mut [u8]) -> usize
     let n = w.len();
     if n < 8 {
         put_short(w, out);
-        return n;
+    } else {
+        put_long(w, out);
     }
-    put_long(w, out);
     n
 }
 
@@ -121,39 +98,25 @@ fn same_short(w: &[u8], s: &[u8]) -> bool
 {
     let n = w.len();
     if n < 2 {
-        if n == 1 {
-            return s[0] == w[0];
-        }
-        return true;
+        return n == 0 || s[0] == w[0];
     }
     if n < 4 {
-        if same2(w, 0, s) {
-            return same2(w, n - 2, s);
-        }
-        return false;
+        return same_ends::<2>(w, s);
     }
-    if same4(w, 0, s) {
-        return same4(w, n - 4, s);
-    }
-    false
+    same_ends::<4>(w, s)
 }
 
-// Whether s, which is no shorter, begins with a text of 8 bytes or more.
+// Whether s, which is no shorter, begins with a text of 8 bytes or more: eight at a time, and the last eight.
 fn same_long(w: &[u8], s: &[u8]) -> bool
     requires { (8 ≤ length w.now) × (length w.now ≤ length s.now) }
     ensures { result ≡ begins_with w.now s.now }
 {
-    let n = w.len();
-    let last = n - 8;
-    let mut i: usize = 0;
-    while i < last {
-        if same8(w, i, s) {
-            i += 8;
-        } else {
+    for turn in 0..(w.len() - 1) / 8 {
+        if !same_part::<8>(w, turn * 8, s) {
             return false;
         }
     }
-    same8(w, last, s)
+    same_part::<8>(w, w.len() - 8, s)
 }
 
 // Whether s begins with a text.
@@ -170,13 +133,10 @@ pub fn begins(w: &[u8], s: &[u8]) -> bool
     same_long(w, s)
 }
 
-// One more than the length of the text at a place, where s begins with it; else 0.
-pub fn pass(pool: &[u8], place: u32, s: &[u8]) -> usize
+// The length of the text at a place, where s begins with it.
+pub fn pass(pool: &[u8], place: u32, s: &[u8]) -> Option<usize>
     ensures { result ≡ passed (part_of pool.now place) s.now }
 {
     let w = part(pool, place);
-    if begins(w, s) {
-        return w.len() + 1;
-    }
-    0
+    begins(w, s).then_some(w.len())
 }

@@ -1,75 +1,43 @@
-// Two, four and eight bytes at a time: the compiler makes one store, or one comparison, of each.
-ghost use Rattle.std.specs.Prelude.{◌≡◌, ◌+◌, ◌≤◌, ◌++◌, length, take, drop};
+// Several bytes at a time: the compiler makes one load and one store, or one comparison, of each.
+ghost use Rattle.std.specs.Prelude.{◌≡◌, ◌+◌, ◌≤◌, length};
+ghost use Rattle.base.specs.Buffer.{over};
 ghost use Rattle.base.specs.Decides.{Decides};
-ghost use Rattle.base.specs.Bytes.{low_bytes};
+ghost use Rattle.base.specs.Front.{begins as begins_with};
 ghost use Rattle.words.specs.Moves.{seg, with};
 
-use base::loads::{get2, get4, get8};
+use base::loads::chunk;
 
-fn put2(w: u64, out: &mut [u8], at: usize)
-    requires { at + 2 ≤ length out.old }
-    ensures { out.new ≡ take at out.old ++ (low_bytes 2 w ++ drop (at + 2) out.old) }
+// The N bytes of w from `at` on are moved to the same place of out; by value, since of two slices that may overlap the compiler makes a loop as well.
+pub fn move_part<const N: usize>(w: &[u8], at: usize, out: &mut [u8])
+    requires { (at + N ≤ length w.now) × (at + N ≤ length out.old) }
+    ensures { out.new ≡ with at (seg at N w.now) N out.old }
 {
-    out[at] = (w % 256) as u8;
-    out[at + 1] = (w / 256 % 256) as u8;
+    out[at..at + N].copy_from_slice(&chunk::<N>(w, at));
 }
 
-fn put4(w: u64, out: &mut [u8], at: usize)
-    requires { at + 4 ≤ length out.old }
-    ensures { out.new ≡ take at out.old ++ (low_bytes 4 w ++ drop (at + 4) out.old) }
+// Whether the N bytes of w from `at` on are those at the same place of s.
+pub fn same_part<const N: usize>(w: &[u8], at: usize, s: &[u8]) -> bool
+    requires { (at + N ≤ length w.now) × (at + N ≤ length s.now) }
+    ensures { Decides result (seg at N s.now ≡ seg at N w.now) }
 {
-    put2(w, out, at);
-    put2(w / 65536, out, at + 2);
+    chunk::<N>(s, at) == chunk::<N>(w, at)
 }
 
-fn put8(w: u64, out: &mut [u8], at: usize)
-    requires { at + 8 ≤ length out.old }
-    ensures { out.new ≡ take at out.old ++ (low_bytes 8 w ++ drop (at + 8) out.old) }
+// Writes a text of N to 2 N bytes over the front of out: its first and its last N.
+pub fn move_ends<const N: usize>(w: &[u8], out: &mut [u8])
+    requires { (N ≤ length w.now) × (length w.now ≤ N + N) × (length w.now ≤ length out.old) }
+    ensures { out.new ≡ over out.old w.now }
 {
-    put4(w, out, at);
-    put4(w / 4294967296, out, at + 4);
+    let last = w.len() - N;
+    move_part::<N>(w, 0, out);
+    move_part::<N>(w, last, out);
 }
 
-// The bytes of w from `at` on are moved to the same place of out.
-pub fn move2(w: &[u8], at: usize, out: &mut [u8])
-    requires { (at + 2 ≤ length w.now) × (at + 2 ≤ length out.old) }
-    ensures { out.new ≡ with at (seg at 2 w.now) 2 out.old }
+// Whether s, which is no shorter, begins with a text of N to 2 N bytes.
+pub fn same_ends<const N: usize>(w: &[u8], s: &[u8]) -> bool
+    requires { (N ≤ length w.now) × (length w.now ≤ N + N) × (length w.now ≤ length s.now) }
+    ensures { result ≡ begins_with w.now s.now }
 {
-    put2(get2(w, at), out, at);
-}
-
-pub fn move4(w: &[u8], at: usize, out: &mut [u8])
-    requires { (at + 4 ≤ length w.now) × (at + 4 ≤ length out.old) }
-    ensures { out.new ≡ with at (seg at 4 w.now) 4 out.old }
-{
-    put4(get4(w, at), out, at);
-}
-
-pub fn move8(w: &[u8], at: usize, out: &mut [u8])
-    requires { (at + 8 ≤ length w.now) × (at + 8 ≤ length out.old) }
-    ensures { out.new ≡ with at (seg at 8 w.now) 8 out.old }
-{
-    put8(get8(w, at), out, at);
-}
-
-// Whether the bytes of w from `at` on are those at the same place of s.
-pub fn same2(w: &[u8], at: usize, s: &[u8]) -> bool
-    requires { (at + 2 ≤ length w.now) × (at + 2 ≤ length s.now) }
-    ensures { Decides result (seg at 2 s.now ≡ seg at 2 w.now) }
-{
-    get2(s, at) == get2(w, at)
-}
-
-pub fn same4(w: &[u8], at: usize, s: &[u8]) -> bool
-    requires { (at + 4 ≤ length w.now) × (at + 4 ≤ length s.now) }
-    ensures { Decides result (seg at 4 s.now ≡ seg at 4 w.now) }
-{
-    get4(s, at) == get4(w, at)
-}
-
-pub fn same8(w: &[u8], at: usize, s: &[u8]) -> bool
-    requires { (at + 8 ≤ length w.now) × (at + 8 ≤ length s.now) }
-    ensures { Decides result (seg at 8 s.now ≡ seg at 8 w.now) }
-{
-    get8(s, at) == get8(w, at)
+    let last = w.len() - N;
+    same_part::<N>(w, 0, s) && same_part::<N>(w, last, s)
 }

@@ -9,7 +9,7 @@ use Rattle.base.specs.Answer.{Spelling}
 use Rattle.base.specs.Replaced.{replaced}
 use Rattle.base.proofs.Replaced.{Turns, turned, nothing, joined_turns}
 use Rattle.settings.specs.Settings.{ukrainian_settings, ukrainian_ranges}
-use Rattle.settings.specs.declared.Settings.{Settings}
+use Rattle.settings.specs.Settings.{Settings}
 use Rattle.settings.proofs.Ranges.{unrefused, in_range}
 use Rattle.figures.specs.Text.{value, negative, unsigned}
 use Rattle.figures.specs.Money.{whole_of, hundredths_of}

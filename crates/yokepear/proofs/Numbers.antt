@@ -16,7 +16,7 @@ use Rattle.base.specs.declared.Answer.{Answer}
 use Rattle.base.specs.declared.Measure.{Measure}
 use Rattle.settings.specs.Settings.{ukrainian_settings, french_settings, ukrainian_ranges, french_ranges}
 use Rattle.settings.specs.Refused.{out_of_range}
-use Rattle.settings.specs.declared.Settings.{Settings}
+use Rattle.settings.specs.Settings.{Settings}
 use Rattle.figures.specs.Refusals.{ukrainian_digit_limit, french_digit_limit, cardinal_refusals, ordinal_refusals, digit_ordinal_refusals, amount_refusals}
 use Rattle.uk_ordinal.specs.Ordinal.{school}
 use Rattle.uk_ordinal_calls.specs.UkOrdinals.{reading_refusal}

@@ -10,7 +10,7 @@ use Rattle.base.specs.Join.{joined}
 use Rattle.base.specs.Reading.{Reads}
 use Rattle.base.specs.declared.Answer.{Answer}
 use Rattle.settings.specs.Settings.{school_style, ukrainian_settings}
-use Rattle.settings.specs.declared.Settings.{Settings}
+use Rattle.settings.specs.Settings.{Settings}
 use Rattle.figures.specs.Refusals.{ukrainian_digit_limit, year_refusals, Admitted}
 use Rattle.figures.specs.Year.{year_of, Signed64}
 use Rattle.uk_ordinal.specs.Ordinal.{ordinal_words}

@@ -12,7 +12,7 @@ use Rattle.base.specs.Answer.{wrong_setting, wrong_code, malformed, wrong_sign, 
 use Rattle.base.specs.Buffer.{over}
 use Rattle.base.specs.declared.Measure.{Measure}
 use Rattle.settings.specs.Settings.{ukrainian_ranges}
-use Rattle.settings.specs.declared.Settings.{Settings}
+use Rattle.settings.specs.Settings.{Settings}
 use Rattle.figures.specs.Refusals.{amount_refusals}
 use Rattle.figures.specs.Value.{IsAmount}
 use Rattle.uk_money.specs.Currencies.{Currency}

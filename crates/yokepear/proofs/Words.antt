@@ -12,7 +12,7 @@ use Rattle.base.specs.Divide.{divided, NoneEmpty}
 use Rattle.base.specs.Signs.{space}
 use Rattle.base.proofs.Words.{Solid, solid_parts, solid_some, joined_solid}
 use Rattle.settings.specs.Settings.{ukrainian_settings, french_settings, ukrainian_ranges, french_ranges}
-use Rattle.settings.specs.declared.Settings.{Settings}
+use Rattle.settings.specs.Settings.{Settings}
 use Rattle.settings.proofs.Ranges.{unrefused, in_range}
 use Rattle.figures.specs.Text.{value, negative, unsigned, well_formed}
 use Rattle.figures.specs.Money.{whole_of, hundredths_of}

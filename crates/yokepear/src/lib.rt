@@ -27,7 +27,7 @@ pub extern "C" fn yokepear_uk_to_cardinal(
 ) -> Answer
     ensures { Answers result out.old out.new (replied (spelling_of (to_cardinal gender number case apostrophe style text.now)) out.old) }
 {
-    uk_calls::to_cardinal(gender, number, case, apostrophe, style, text, out)
+    Answer::from(uk_calls::to_cardinal(gender, number, case, apostrophe, style, text, out))
 }
 
 // The number text of a cardinal.
@@ -43,7 +43,7 @@ pub extern "C" fn yokepear_uk_from_cardinal(
 ) -> Answer
     ensures { Reads (reading_of (from_cardinal gender number case apostrophe style)) phrase.now result out.old out.new }
 {
-    uk_calls::from_cardinal(gender, number, case, apostrophe, style, phrase, out)
+    Answer::from(uk_calls::from_cardinal(gender, number, case, apostrophe, style, phrase, out))
 }
 
 // The ordinal of a number text.
@@ -59,7 +59,7 @@ pub extern "C" fn yokepear_uk_to_ordinal(
 ) -> Answer
     ensures { Answers result out.old out.new (replied (spelling_of (to_ordinal gender number case apostrophe style text.now)) out.old) }
 {
-    uk_ordinal_calls::to_ordinal(gender, number, case, apostrophe, style, text, out)
+    Answer::from(uk_ordinal_calls::to_ordinal(gender, number, case, apostrophe, style, text, out))
 }
 
 // The digit ordinal of a number text.
@@ -75,7 +75,9 @@ pub extern "C" fn yokepear_uk_to_ordinal_num(
 ) -> Answer
     ensures { Answers result out.old out.new (replied (spelling_of (to_ordinal_num gender number case apostrophe style text.now)) out.old) }
 {
-    uk_ordinal_calls::to_ordinal_num(gender, number, case, apostrophe, style, text, out)
+    Answer::from(uk_ordinal_calls::to_ordinal_num(
+        gender, number, case, apostrophe, style, text, out,
+    ))
 }
 
 // The phrase of a year.
@@ -91,7 +93,7 @@ pub extern "C" fn yokepear_uk_to_year(
 ) -> Answer
     ensures { Answers result out.old out.new (replied (spelling_of (to_year gender number case apostrophe style year)) out.old) }
 {
-    uk_ordinal_calls::to_year(gender, number, case, apostrophe, style, year, out)
+    Answer::from(uk_ordinal_calls::to_year(gender, number, case, apostrophe, style, year, out))
 }
 
 // The number text of an ordinal as taught in school.
@@ -107,7 +109,9 @@ pub extern "C" fn yokepear_uk_from_ordinal(
 ) -> Answer
     ensures { Reads (reading_of (from_ordinal gender number case apostrophe style)) phrase.now result out.old out.new }
 {
-    uk_ordinal_calls::reading::from_ordinal(gender, number, case, apostrophe, style, phrase, out)
+    Answer::from(uk_ordinal_calls::reading::from_ordinal(
+        gender, number, case, apostrophe, style, phrase, out,
+    ))
 }
 
 // The number text of a year as taught in school.
@@ -123,7 +127,9 @@ pub extern "C" fn yokepear_uk_from_year(
 ) -> Answer
     ensures { Reads (reading_of (from_year gender number case apostrophe style)) phrase.now result out.old out.new }
 {
-    uk_ordinal_calls::reading::from_year(gender, number, case, apostrophe, style, phrase, out)
+    Answer::from(uk_ordinal_calls::reading::from_year(
+        gender, number, case, apostrophe, style, phrase, out,
+    ))
 }
 
 // The phrase of a money text in a currency.
@@ -140,7 +146,9 @@ pub extern "C" fn yokepear_uk_to_currency(
 ) -> Answer
     ensures { Answers result out.old out.new (replied (spelling_of (to_currency gender number case apostrophe style code.now text.now)) out.old) }
 {
-    uk_money_calls::to_currency(gender, number, case, apostrophe, style, code, text, out)
+    Answer::from(uk_money_calls::to_currency(
+        gender, number, case, apostrophe, style, code, text, out,
+    ))
 }
 
 // The money text of an amount in a currency.
@@ -157,7 +165,9 @@ pub extern "C" fn yokepear_uk_from_currency(
 ) -> Answer
     ensures { Reads (reading_of (from_currency gender number case apostrophe style code.now)) phrase.now result out.old out.new }
 {
-    uk_money_calls::from_currency(gender, number, case, apostrophe, style, code, phrase, out)
+    Answer::from(uk_money_calls::from_currency(
+        gender, number, case, apostrophe, style, code, phrase, out,
+    ))
 }
 
 // The French cardinal of a number text.
@@ -171,7 +181,7 @@ pub extern "C" fn yokepear_fr_to_cardinal(
 ) -> Answer
     ensures { Answers result out.old out.new (replied (spelling_of (to_french_cardinal feminine reformed region text.now)) out.old) }
 {
-    fr_calls::to_cardinal(feminine, reformed, region, text, out)
+    Answer::from(fr_calls::to_cardinal(feminine, reformed, region, text, out))
 }
 
 // The French ordinal of a number text.
@@ -185,7 +195,7 @@ pub extern "C" fn yokepear_fr_to_ordinal(
 ) -> Answer
     ensures { Answers result out.old out.new (replied (spelling_of (to_french_ordinal feminine reformed region text.now)) out.old) }
 {
-    fr_calls::to_ordinal(feminine, reformed, region, text, out)
+    Answer::from(fr_calls::to_ordinal(feminine, reformed, region, text, out))
 }
 
 // The number text of a French cardinal.
@@ -199,7 +209,7 @@ pub extern "C" fn yokepear_fr_from_cardinal(
 ) -> Answer
     ensures { Reads (reading_of (from_french_cardinal feminine reformed region)) phrase.now result out.old out.new }
 {
-    fr_calls::from_cardinal(feminine, reformed, region, phrase, out)
+    Answer::from(fr_calls::from_cardinal(feminine, reformed, region, phrase, out))
 }
 
 // The number text of a French ordinal.
@@ -213,7 +223,7 @@ pub extern "C" fn yokepear_fr_from_ordinal(
 ) -> Answer
     ensures { Reads (reading_of (from_french_ordinal feminine reformed region)) phrase.now result out.old out.new }
 {
-    fr_calls::from_ordinal(feminine, reformed, region, phrase, out)
+    Answer::from(fr_calls::from_ordinal(feminine, reformed, region, phrase, out))
 }
 
 // The measure of a cardinal.
@@ -228,7 +238,7 @@ pub extern "C" fn yokepear_uk_measure_cardinal(
 ) -> Measure
     ensures { result ≡ measured (spelling_of (to_cardinal gender number case apostrophe style text.now)) }
 {
-    uk_calls::measure_cardinal(gender, number, case, apostrophe, style, text)
+    Measure::from(uk_calls::measure_cardinal(gender, number, case, apostrophe, style, text))
 }
 
 // The measure of an ordinal.
@@ -243,7 +253,7 @@ pub extern "C" fn yokepear_uk_measure_ordinal(
 ) -> Measure
     ensures { result ≡ measured (spelling_of (to_ordinal gender number case apostrophe style text.now)) }
 {
-    uk_ordinal_calls::measure_ordinal(gender, number, case, apostrophe, style, text)
+    Measure::from(uk_ordinal_calls::measure_ordinal(gender, number, case, apostrophe, style, text))
 }
 
 // The measure of a digit ordinal.
@@ -258,7 +268,9 @@ pub extern "C" fn yokepear_uk_measure_ordinal_num(
 ) -> Measure
     ensures { result ≡ measured (spelling_of (to_ordinal_num gender number case apostrophe style text.now)) }
 {
-    uk_ordinal_calls::measure_ordinal_num(gender, number, case, apostrophe, style, text)
+    Measure::from(uk_ordinal_calls::measure_ordinal_num(
+        gender, number, case, apostrophe, style, text,
+    ))
 }
 
 // The measure of a year.
@@ -273,7 +285,7 @@ pub extern "C" fn yokepear_uk_measure_year(
 ) -> Measure
     ensures { result ≡ measured (spelling_of (to_year gender number case apostrophe style year)) }
 {
-    uk_ordinal_calls::measure_year(gender, number, case, apostrophe, style, year)
+    Measure::from(uk_ordinal_calls::measure_year(gender, number, case, apostrophe, style, year))
 }
 
 // The measure of an amount in a currency.
@@ -289,7 +301,9 @@ pub extern "C" fn yokepear_uk_measure_currency(
 ) -> Measure
     ensures { result ≡ measured (spelling_of (to_currency gender number case apostrophe style code.now text.now)) }
 {
-    uk_money_calls::measure_currency(gender, number, case, apostrophe, style, code, text)
+    Measure::from(uk_money_calls::measure_currency(
+        gender, number, case, apostrophe, style, code, text,
+    ))
 }
 
 // The measure of a French cardinal.
@@ -302,7 +316,7 @@ pub extern "C" fn yokepear_fr_measure_cardinal(
 ) -> Measure
     ensures { result ≡ measured (spelling_of (to_french_cardinal feminine reformed region text.now)) }
 {
-    fr_calls::measure_cardinal(feminine, reformed, region, text)
+    Measure::from(fr_calls::measure_cardinal(feminine, reformed, region, text))
 }
 
 // The measure of a French ordinal.
@@ -315,7 +329,7 @@ pub extern "C" fn yokepear_fr_measure_ordinal(
 ) -> Measure
     ensures { result ≡ measured (spelling_of (to_french_ordinal feminine reformed region text.now)) }
 {
-    fr_calls::measure_ordinal(feminine, reformed, region, text)
+    Measure::from(fr_calls::measure_ordinal(feminine, reformed, region, text))
 }
 
 // The empty tally of a code's currency.
@@ -323,7 +337,7 @@ pub extern "C" fn yokepear_fr_measure_ordinal(
 pub extern "C" fn yokepear_tally_open(code: &[u8], tally: &mut [u8]) -> Answer
     ensures { Answers result tally.old tally.new (replied (opening code.now) tally.old) }
 {
-    tally_calls::open(code, tally)
+    Answer::from(tally_calls::open(code, tally))
 }
 
 // Adding the amount of a money text to a tally.

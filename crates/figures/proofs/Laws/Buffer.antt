@@ -1,7 +1,7 @@
 -- Lent buffers, and answers written to them.
 -- Assumes nothing.
 use Rattle.std.proofs.Common.{◌≡◌, ℕ, ◌+◌, ◌-◌, ◌<◌, ◌≤◌, List, ◌++◌, length, get_or, take, drop, set, append_assoc, append-nil, zero-add, add-one, arith, length-append, length-drop, drop_of_length-le, take_all, drop-drop, le-ltb, lt-ltb}
-use lib.Seq.{paste-suc, sets, sets-eq, take-append_seam, drop-append_seam}
+use lib.Seq.{paste-suc, take-append_seam, drop-append_seam}
 use borrow.Rule.Slice.PartMut.{put_mid}
 use Rattle.base.specs.Answer.{fitted, Answers}
 use Rattle.base.specs.Buffer.{over}
@@ -24,12 +24,6 @@ pub sofar_all : (xs t : List ℕ) (i : ℕ) → length t ≡ length xs → lengt
 sofar_all xs t i e h =
     let l : length t ≤ i = omega arith in
     rw (take_all i t l, drop_of_length-le xs {i = i} h) (append-nil t)
-
--- bytes stored one after the other from the first
-pub put_all : (xs b : List ℕ) → length b ≤ length xs → sets xs 0 b ≡ over xs b
-put_all xs b h =
-    let z : 0 + length b ≤ length xs = omega arith in
-    simp zero-add at (sets-eq b xs 0 z)
 
 -- a written first, and then b from the next free byte on
 pub wrote : (k : ℕ) (xs a b ys zs : List ℕ) → k ≡ length a → ys ≡ over xs a → zs ≡ over (take (length ys - k) (drop k ys)) b →

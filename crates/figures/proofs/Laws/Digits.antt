@@ -1,11 +1,9 @@
 -- Digits and what they mean.
 -- Assumes nothing.
-use Rattle.std.proofs.Common.{◌≡◌, ℕ, zero, suc, ◌+◌, ◌-◌, ◌*◌, ◌/◌, ◌%◌, ◌^◌, ◌<◌, ◌≤◌, Bool, true, false, ◌&&◌, ltb, leb, List, [], ◌∷◌, ◌++◌, length, get_or, take, drop, sym, refl, ap, ◌∙◌, add_assoc, mul_assoc, add-mul, mul-le-mul_left, pow-suc, add-one, arith, length-append, take-append-drop, drop-cons, take-suc, pow-add, ltb-false, ltb-true, lt-ltb, le-leb, leb-true}
+use Rattle.std.proofs.Common.{◌≡◌, ℕ, zero, suc, ◌+◌, ◌-◌, ◌*◌, ◌/◌, ◌%◌, ◌^◌, ◌<◌, ◌≤◌, Bool, true, ◌&&◌, leb, List, [], ◌∷◌, ◌++◌, length, get_or, take, drop, sym, refl, ap, ◌∙◌, add_assoc, mul_assoc, add-mul, mul-le-mul_left, pow-suc, add-one, arith, length-append, take-append-drop, take-suc, pow-add, le-leb, leb-true}
 use native.Mathlib.Nat.{one-le-pow, pow-succ'}
-use native.Mathlib.Decide.{dec_lt}
-use mathlib.Core.Bool.{and-false, and-eq-true_iff}
+use mathlib.Core.Bool.{and-eq-true_iff}
 use lib.Arith.{digits_lt, digits_div, digits_mod}
-use borrow.Author.Tests.{lt-leb}
 use Rattle.figures.specs.Text.{digit, digits, value}
 
 -- two tests hold
@@ -53,44 +51,6 @@ pub digits_at : (xs : List ℕ) (i : ℕ) → digits xs ≡ true → i < length 
 digits_at [] i e h = absurd (omega arith)
 digits_at (b ∷ bs) zero e h = digits_head b bs e
 digits_at (b ∷ bs) (suc i) e h = digits_at bs i (digits_tail b bs e) (omega arith)
-
--- how far a byte stands past '0' tells whether it is a digit
-digit_past : (b p : ℕ) → b < 256 → p ≡ (b + 208) % 256 → digit b ≡ ltb p 10
-digit_past b p h e = go (ltb p 10) refl
-  where
-    go : (t : Bool) → ltb p 10 ≡ t → digit b ≡ t
-    go true q = let l : p < 10 = ltb-true p 10 q in digit_is b (omega arith) (omega arith)
-    go false q = none (ltb-false p 10 q) (dec_lt b 48)
-      where
-        none : 10 ≤ p → Dec (b < 48) → digit b ≡ false
-        none l (yes s) = rw (lt-leb 48 b s) refl
-        none l (no s) = let a : 48 ≤ b = omega arith in let f : 57 < b = omega arith in rw (le-leb 48 b a, lt-leb b 57 f) refl
-
--- the farthest of two is below 10 where both are
-farther : (m p : ℕ) (b : Bool) → m < p → (ltb m 10 && (ltb p 10 && b)) ≡ (ltb p 10 && b)
-farther m p b h = go (ltb p 10) refl
-  where
-    go : (t : Bool) → ltb p 10 ≡ t → (ltb m 10 && (t && b)) ≡ (t && b)
-    go true q = let l : p < 10 = ltb-true p 10 q in rw (lt-ltb m 10 (omega arith)) refl
-    go false q = and-false (ltb m 10)
-
-nearer : (m p : ℕ) (b : Bool) → p ≤ m → (ltb m 10 && (ltb p 10 && b)) ≡ (ltb m 10 && b)
-nearer m p b h = go (ltb m 10) refl
-  where
-    go : (t : Bool) → ltb m 10 ≡ t → (t && (ltb p 10 && b)) ≡ (t && b)
-    go true q = let l : m < 10 = ltb-true m 10 q in rw (lt-ltb p 10 (omega arith)) refl
-    go false q = refl
-
--- a loop over the bytes, of which the farthest past '0' is kept: one that is farther, and one that is not
-module _ (s : List ℕ) (i m p : ℕ) (h : i < length s) (l : get_or s i 0 < 256) (e : p ≡ (get_or s i 0 + 208) % 256) where
-  digits_step : digits (drop i s) ≡ (ltb p 10 && digits (drop (i + 1) s))
-  digits_step = rw (add-one, drop-cons s i 0, digit_past (get_or s i 0) p l e) refl
-
-  pub digits_farther : m < p → (ltb m 10 && digits (drop i s)) ≡ (ltb p 10 && digits (drop (i + 1) s))
-  digits_farther g = rw digits_step (farther m p (digits (drop (i + 1) s)) g)
-
-  pub digits_nearer : p ≤ m → (ltb m 10 && digits (drop i s)) ≡ (ltb m 10 && digits (drop (i + 1) s))
-  digits_nearer g = rw digits_step (nearer m p (digits (drop (i + 1) s)) g)
 
 -- a value fits its number of digits
 pub value_lt : (xs : List ℕ) → digits xs ≡ true → value xs < 10 ^ length xs

@@ -1,13 +1,12 @@
 -- Money texts.
 -- Assumes nothing.
-use Rattle.std.proofs.Common.{◌≡◌, ℕ, ◌+◌, ◌-◌, ◌*◌, ◌^◌, ◌≤◌, Bool, true, false, cond, not, ◌&&◌, eqb, leb, List, [], ◌∷◌, ◌++◌, length, get_or, take, drop, refl, ap, ◌∙◌, append-nil, arith, length-append, length-drop, eq-eqb, ne_eqb, eqb-true, leb-true}
+use Rattle.std.proofs.Common.{◌≡◌, ℕ, ◌+◌, ◌-◌, ◌≤◌, Bool, true, false, cond, ◌&&◌, eqb, leb, List, [], ◌∷◌, ◌++◌, length, get_or, take, drop, refl, ap, ◌∙◌, append-nil, arith, length-append, length-drop, ne_eqb, leb-true}
 use mathlib.Core.Bool.{and-eq-true_iff}
-use borrow.Author.Tests.{eqb-false}
 use Rattle.figures.specs.Money.{pointed, whole_text, hundredths_text, are_hundredths, money_formed}
 use Rattle.figures.specs.Written.{money_decimal}
 use Rattle.figures.specs.Text.{digits, plain, well_formed, unsigned}
 use Rattle.figures.specs.Written.{fixed, decimal}
-use Rattle.figures.proofs.Laws.Digits.{digits_at, digit_low, digits_head, digits_tail}
+use Rattle.figures.proofs.Laws.Digits.{digits_at, digit_low}
 use Rattle.figures.proofs.Laws.Sign.{formed_unsigned}
 
 -- the parts of a text with a '.'
@@ -30,41 +29,10 @@ digits_whole s d = go (leb 3 (length s)) refl
         let b : 48 ≤ get_or s (length s - 3) 0 = digit_low (get_or s (length s - 3) 0) (digits_at s (length s - 3) d (omega arith)) in
         ne_eqb (get_or s (length s - 3) 0) 46 (λ q. omega arith)
 
--- two digits that are not both zero, by the first
-eqb_same : (a b x y : ℕ) → (a ≡ b → x ≡ y) → (x ≡ y → a ≡ b) → eqb a b ≡ eqb x y
-eqb_same a b x y f g = go (eqb x y) refl
-  where
-    go : (t : Bool) → eqb x y ≡ t → eqb a b ≡ t
-    go true e = eq-eqb a b (g (eqb-true x y e))
-    go false e = ne_eqb a b (λ p. eqb-false x y e (f p))
-
-pub hundredths_low : (t : List ℕ) → length t ≡ 2 → digits t ≡ true → get_or t 0 0 ≡ 48 → are_hundredths t ≡ not (eqb (get_or t 1 0) 48)
-hundredths_low [] l d e = absurd (omega arith)
-hundredths_low (a ∷ []) l d e = absurd (omega arith)
-hundredths_low (a ∷ b ∷ c ∷ r) l d e = absurd (omega arith)
-hundredths_low (a ∷ b ∷ []) l d e =
-    let h : 48 ≤ b = digit_low b (digits_head b [] (digits_tail a (b ∷ []) d)) in
-    let z : eqb ((a - 48) * 10 ^ 1 + ((b - 48) * 10 ^ 0 + 0)) 0 ≡ eqb b 48 = eqb_same ((a - 48) * 10 ^ 1 + ((b - 48) * 10 ^ 0 + 0)) 0 b 48 (λ p. omega arith) (λ p. omega arith) in
-    rw (d, z)
-
-pub hundredths_high : (t : List ℕ) → length t ≡ 2 → digits t ≡ true → (get_or t 0 0 ≡ 48 → ⊥) → are_hundredths t ≡ true
-hundredths_high [] l d e = absurd (omega arith)
-hundredths_high (a ∷ []) l d e = absurd (omega arith)
-hundredths_high (a ∷ b ∷ c ∷ r) l d e = absurd (omega arith)
-hundredths_high (a ∷ b ∷ []) l d e =
-    let h : 48 ≤ a = digit_low a (digits_head a (b ∷ []) d) in
-    let z : eqb ((a - 48) * 10 ^ 1 + ((b - 48) * 10 ^ 0 + 0)) 0 ≡ false = ne_eqb ((a - 48) * 10 ^ 1 + ((b - 48) * 10 ^ 0 + 0)) 0 (λ p. e (let q : a ≡ 48 = omega arith in q)) in
-    rw (d, z)
-
 -- a money text by its parts
 pub money_pointed : (s : List ℕ) → pointed s ≡ true → plain (unsigned (whole_text s)) ≡ true → money_formed s ≡ are_hundredths (hundredths_text s)
 money_pointed s p q =
     let q₁ : plain (unsigned (take (length s - 3) s)) ≡ true = rw p at q in
-    rw (p, q₁)
-
-pub money_bad : (s : List ℕ) → pointed s ≡ true → plain (unsigned (whole_text s)) ≡ false → money_formed s ≡ false
-money_bad s p q =
-    let q₁ : plain (unsigned (take (length s - 3) s)) ≡ false = rw p at q in
     rw (p, q₁)
 
 pub money_plain : (s : List ℕ) → pointed s ≡ false → money_formed s ≡ well_formed s
@@ -87,6 +55,3 @@ money_none w h e = rw e (append-nil (decimal w))
 
 pub size_some : (w h : ℕ) → (h ≡ 0 → ⊥) → length (money_decimal w h) ≡ length (decimal w) + 3
 size_some w h e = ap length (money_some w h e) ∙ length-append (decimal w) (46 ∷ fixed 2 h)
-
-pub size_none : (w h : ℕ) → h ≡ 0 → length (money_decimal w h) ≡ length (decimal w)
-size_none w h e = ap length (money_none w h e)

@@ -1,20 +1,11 @@
 -- Plain texts, by their first byte.
 -- Assumes nothing.
 use Rattle.std.proofs.Common.{◌≡◌, ℕ, suc, ◌-◌, ◌^◌, ◌<◌, ◌≤◌, Bool, true, false, cond, eqb, List, [], ◌∷◌, length, get_or, sym, refl, ◌∙◌, mul-le-mul, arith, eq-eqb, ne_eqb, eqb-true}
-use lib.Dec.{eqb-suc-suc}
 use borrow.Author.Tests.{eqb-false}
 use Rattle.figures.specs.Text.{digits, plain, value}
 use Rattle.figures.proofs.Laws.Digits.{and_both, ten_pos, digit_low, digit_is, digits_head}
 
 -- a plain text by its first byte
-pub plain_empty : (s : List ℕ) → length s ≡ 0 → plain s ≡ false
-plain_empty [] h = refl
-plain_empty (b ∷ bs) h = absurd (omega arith)
-
-pub plain_zero : (s : List ℕ) → get_or s 0 0 ≡ 48 → plain s ≡ eqb (length s) 1
-plain_zero [] e = refl
-plain_zero (b ∷ bs) e = rw (eq-eqb b 48 e) (sym (eqb-suc-suc (length bs) 0))
-
 pub plain_other : (s : List ℕ) → (length s ≡ 0 → ⊥) → (get_or s 0 0 ≡ 48 → ⊥) → plain s ≡ digits s
 plain_other [] n e = absurd (n refl)
 plain_other (b ∷ bs) n e = rw (ne_eqb b 48 e)

@@ -1,31 +1,11 @@
 -- What is refused, and what it says of a text that nothing is.
 -- Assumes nothing.
-use Rattle.std.proofs.Common.{◌≡◌, ℕ, ◌*◌, ◌^◌, ◌<◌, ◌≤◌, Bool, true, false, not, ltb, List, length, sym, refl, ap, ◌∙◌, arith, ltb-false, le-ltb}
+use Rattle.std.proofs.Common.{◌≡◌, ℕ, ◌*◌, ◌^◌, ◌<◌, ◌≤◌, Bool, true, false, not, ltb, List, length, refl, arith, ltb-false, le-ltb}
 use Rattle.figures.specs.Judging.{judged}
-use Rattle.figures.specs.Text.{plain, value, negative, unsigned, well_formed}
+use Rattle.figures.specs.Text.{value, unsigned, well_formed}
 use Rattle.figures.proofs.Laws.Plain.{plain_digits}
 use Rattle.figures.proofs.Laws.Groups.{hold}
-use Rattle.figures.proofs.Laws.Sign.{digits_unsigned, unsigned_plain, formed_unsigned}
-
--- a value with a limit, where no sign is admitted: a plain text, and any other
-module _ (s : List ℕ) (limit : ℕ) where
-  pub judge_plain : plain s ≡ true → judged false false (ltb limit (value s)) ≡ judged (not (well_formed s)) (negative s) (ltb limit (value (unsigned s)))
-  judge_plain p =
-      let e : negative s ≡ false = digits_unsigned s (plain_digits s p) in
-      let u : unsigned s ≡ s = unsigned_plain s e in
-      rw (u, p, e)
-
-  pub judge_other : plain s ≡ false → judged (not (well_formed s)) true false ≡ judged (not (well_formed s)) (negative s) (ltb limit (value (unsigned s)))
-  judge_other p = go (well_formed s) (negative s) refl refl
-    where
-      go : (f m : Bool) → well_formed s ≡ f → negative s ≡ m → judged (not f) true false ≡ judged (not f) m (ltb limit (value (unsigned s)))
-      go false m q e = refl
-      go true true q e = refl
-      go true false q e =
-          let t : plain s ≡ true = ap plain (sym (unsigned_plain s e)) ∙ formed_unsigned s q in
-          let z : ◌≡◌ {A = Bool} true false = sym t ∙ p in
-          let n : ◌≡◌ {A = ℕ} 0 1 = cc in
-          absurd (omega arith)
+use Rattle.figures.proofs.Laws.Sign.{formed_unsigned}
 
 -- a text of which nothing is refused is well formed, has no sign that is refused, and is within its limit; and only such a text
 pub record Passed (is_formed is_refused : Bool) (size limit : ℕ) : Type 0 where

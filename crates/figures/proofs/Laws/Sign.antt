@@ -1,6 +1,6 @@
 -- Texts with a sign.
 -- Assumes nothing.
-use Rattle.std.proofs.Common.{◌≡◌, ℕ, suc, ◌+◌, ◌^◌, ◌<◌, ◌≤◌, Bool, true, false, cond, not, ◌&&◌, eqb, leb, List, [], ◌∷◌, length, get_or, drop, sym, refl, ap, ◌∙◌, add-one, arith, eq-eqb, ne_eqb, eqb-true, leb-false, leb-true}
+use Rattle.std.proofs.Common.{◌≡◌, ℕ, suc, ◌^◌, ◌<◌, ◌≤◌, Bool, true, false, cond, not, ◌&&◌, eqb, leb, List, [], ◌∷◌, length, get_or, sym, refl, ap, ◌∙◌, arith, eq-eqb, ne_eqb, eqb-true, leb-false, leb-true}
 use native.Mathlib.Nat.{pow-le-pow_right}
 use mathlib.Core.Bool.{and-eq-true_iff}
 use borrow.Author.Tests.{not-true}
@@ -12,25 +12,13 @@ use Rattle.figures.proofs.Laws.Plain.{plain_digits, plain_least, plain_first}
 use Rattle.figures.proofs.Laws.Text.{text_value, value_text, plain_text}
 
 -- the sign by the first byte, and what stands after it
-pub negative_empty : (s : List ℕ) → length s ≡ 0 → negative s ≡ false
-negative_empty [] h = refl
-negative_empty (b ∷ bs) h = absurd (omega arith)
-
 pub negative_first : (s : List ℕ) → negative s ≡ eqb (get_or s 0 0) 45
 negative_first [] = refl
 negative_first (b ∷ bs) = refl
 
-pub unsigned_minus : (s : List ℕ) → negative s ≡ true → unsigned s ≡ drop 1 s
-unsigned_minus [] e = refl
-unsigned_minus (b ∷ bs) e = rw e
-
 pub unsigned_plain : (s : List ℕ) → negative s ≡ false → unsigned s ≡ s
 unsigned_plain [] e = refl
 unsigned_plain (b ∷ bs) e = rw e
-
-pub size_minus : (s : List ℕ) → negative s ≡ true → length s ≡ length (unsigned s) + 1
-size_minus [] e = cc
-size_minus (b ∷ bs) e = rw e (sym (add-one (length bs)))
 
 -- digits have no sign
 pub digits_unsigned : (s : List ℕ) → digits s ≡ true → negative s ≡ false
@@ -54,10 +42,6 @@ formed_sign s p m = rw (p, m)
 pub formed_minus : (s : List ℕ) → plain (unsigned s) ≡ true → negative s ≡ true → well_formed s ≡ not (eqb (get_or (unsigned s) 0 0) 48)
 formed_minus s p m = formed_sign s p m ∙ ap not (sym (plain_first (unsigned s) p))
 
-pub formed_some : (s : List ℕ) → well_formed s ≡ true → 0 < length s
-formed_some [] f = let z : ◌≡◌ {A = ℕ} 0 1 = cc in absurd (omega arith)
-formed_some (b ∷ bs) f = omega arith
-
 -- a well formed text that means 0 has no sign, and is the one that begins with '0'
 pub zero_plain_lem : (s : List ℕ) → well_formed s ≡ true → value (unsigned s) ≡ 0 → negative s ≡ false
 zero_plain_lem s f v = go (negative s) refl
@@ -78,13 +62,6 @@ zero_first s f = go (negative s) refl
         let m : get_or s 0 0 ≡ 45 = eqb-true (get_or s 0 0) 45 (sym (negative_first s) ∙ e) in
         let v : not (eqb (value (unsigned s)) 0) ≡ true = sym (formed_sign s (formed_unsigned s f) e) ∙ f in
         ne_eqb (get_or s 0 0) 48 (λ q. omega arith) ∙ sym (not-true (eqb (value (unsigned s)) 0) v)
-
--- the text with the sign, by the sign
-pub sign_yes : (m : Bool) (n : ℕ) → m ≡ true → signed_decimal m n ≡ 45 ∷ decimal n
-sign_yes m n e = rw e
-
-pub sign_no : (m : Bool) (n : ℕ) → m ≡ false → signed_decimal m n ≡ decimal n
-sign_no m n e = rw e
 
 -- the number text of n, or of -n where n is above 0, is well formed, and means n with its sign
 pub number_text : (minus : Bool) (n : ℕ) → n < 10 ^ 102 → (minus ≡ true → 0 < n) → IsNumber minus n (signed_decimal minus n)

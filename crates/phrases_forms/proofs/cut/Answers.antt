@@ -1,15 +1,29 @@
 -- `phrases_forms::cut` meets its contract.
 -- Assumes nothing.
-use Rattle.std.proofs.Common.{length, arith}
-use Rattle.phrases_forms.proofs.Words.{first_at, rest_at, rest_none}
+use Rattle.std.proofs.Common.{ℕ, ◌+◌, ◌-◌, ◌≡◌, cond, eqb, ltb, List, [], length, take, drop, Some, None, position, refl, sym, ◌∙◌, rules, tests, arith}
+use Rattle.std.specs.List.{position_or_len}
+use Rattle.std.proofs.lemmas.Iterator.{YieldsList-from_slice}
+use Rattle.std.proofs.lemmas.Iterator.Search.{position_from_yields_List}
+use Rattle.std.proofs.lemmas.Grind.{common_steps}
+use Rattle.phrases_forms.specs.Cuts.{next_word, after_space}
+use Rattle.phrases_forms.proofs.cut.Goals.{After-position}
 use Rattle.phrases_forms.proofs.cut.Goals as goal
 
-pub returns-then-b-eq32-clause-s_value : goal.returns-then-b-eq32-clause-s_value
-returns-then-b-eq32-clause-s_value c =
-    let s = c.args.s.now in
-    (first_at s c.loop-end.end c.loop-end.invariant (λ _. c.if-b-eq32.true), rest_at s c.loop-end.end c.loop-end.invariant (λ _. c.if-b-eq32.true))
+-- what the search comes to
+found : (c : After-position) → c.position.result ≡ position (λ b. eqb b 32) c.args.s.now
+found c = position_from_yields_List (λ b. eqb b 32) _ _ c.position.result c.position.ensures.ran (YieldsList-from_slice _ c.iter.ensures.rest) (λ x b q k. search (rules, tests))
 
-pub returns-clause-s_value : goal.returns-clause-s_value
-returns-clause-s_value c =
-    let s = c.args.s.now in
-    (first_at s (length s) (λ k h. c.loop-end.invariant k (omega arith)) (λ h. absurd (omega arith)), rest_none s (λ k h. c.loop-end.invariant k (omega arith)))
+at_space : (s : List ℕ) (n k end : ℕ) → n ≡ length s → k ≡ position_or_len (λ b. eqb b 32) s → Some end ≡ cond (ltb k n) (Some k) None
+    → (take end s ≡ next_word s) × (take (length s - (end + 1)) (drop (end + 1) s) ≡ after_space s)
+unfolding next_word after_space
+at_space s n k end e f g = grind (arith, common_steps)
+
+no_space : (s : List ℕ) → None ≡ position (λ b. eqb b 32) s → (s ≡ next_word s) × (◌≡◌ {A = List ℕ} [] (after_space s))
+unfolding next_word after_space
+no_space s e = grind (arith, common_steps)
+
+pub returns-in-Some : goal.returns-in-Some
+returns-in-Some c = at_space c.args.s.now (length c.args.s.now) (position_or_len (λ b. eqb b 32) c.args.s.now) c.in-Some.end refl refl (sym c.in-Some.is ∙ found (goal.at.returns-in-Some c).After-position)
+
+pub returns-in-None : goal.returns-in-None
+returns-in-None c = no_space c.args.s.now (sym c.in-None.is ∙ found (goal.at.returns-in-None c).After-position)

@@ -1,16 +1,20 @@
--- `tally_calls::deciding::remove_item` meets its contract.
-use native.Mathlib.Omega.{arith}
-use Rattle.tally_calls.proofs.Decisions.{decides_removed, decides_not_held}
+-- The place with the item number is freed, if there is one.
+-- Assumes nothing.
+use Rattle.std.proofs.Common.{◌≡◌, None, Some, Err, rules}
+use Rattle.base.specs.declared.Refusal.TheVariants.{NotHeld}
+use Rattle.tally_calls.proofs.Decisions.{none_under, decides_removed, decides_not_held}
 use Rattle.tally_calls.proofs.deciding.remove_item.Goals as goal
-use Rattle.tally_calls.proofs.deciding.remove_item.Goals.{then-item-ne0+else-at-lt-PLACES, else-item-ne0}
 
-pub returns-then-at-lt-PLACES : goal.returns-then-at-lt-PLACES
-returns-then-at-lt-PLACES c =
-    let p = c.requires in
-    decides_removed _ p.0 _ _ _ _ c.find-at.ensures _ _ _ _ p.1 p.3 p.2 c.given_by-given.ensures c.if-item-ne0.true c.if-at-lt-PLACES.true (c.weigh.ensures.weighs, c.weigh.ensures.given_value)
+pub returns-in_err-at : goal.returns-in_err-at
+returns-in_err-at c =
+    let a = c.args in
+    let refused : c.from_residual.result ≡ Err NotHeld = search rules in
+    let nowhere : c.find.result ≡ None = search rules in
+    rw refused (decides_not_held a.settings a.currency.place a.tally.now a.item a.out.now (none_under a.settings a.currency.place a.tally.now a.item (c.find.ensures.none nowhere)))
 
 pub returns : goal.returns
 returns c =
-    decides_not_held _ c.requires.0 _ _ _ _ c.find-at.ensures _ _
-    (λ s h. elim c.if-item-ne0.branch [ then-item-ne0+else-at-lt-PLACES e ↦ omega (arith, e.if-at-lt-PLACES.false) | else-item-ne0 e ↦ s e.if-item-ne0.false ])
-    c.unchanged.ensures
+    let a = c.args in
+    let p = c.requires in
+    let there : c.find.result ≡ Some c.in_ok-at.at = search rules in
+    decides_removed a.settings a.currency.place a.tally.now a.item _ _ _ _ _ a.currency.known p.1 p.0 c.given_by-given.ensures c.if-item-eq0.false (c.find.ensures.found _ there) c.weigh.ensures.weighs c.weigh.ensures.stored

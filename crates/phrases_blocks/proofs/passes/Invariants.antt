@@ -1,8 +1,0 @@
--- A line is held at each turn.
--- Assumes nothing.
-use Rattle.std.proofs.Common.{◌≡◌, ◌≤◌, take, true}
-use Rattle.phrases_lines.specs.Held.{is_line}
-use Rattle.phrases_blocks.proofs.passes.Given as goal
-
-abbrev pub invariant-loop : goal.invariant-loop
-invariant-loop l = (l.held ≤ 513) × (is_line (take l.held l.line) ≡ true)

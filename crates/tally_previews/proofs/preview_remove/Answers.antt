@@ -1,0 +1,8 @@
+-- What was decided is what the preview answers.
+-- Assumes nothing.
+use Rattle.std.proofs.Common.{refl}
+use Rattle.tally_calls.proofs.Settling.{tallies}
+use Rattle.tally_previews.proofs.preview_remove.Goals as goal
+
+pub returns : goal.returns
+returns c = record { reports = rw c.from.ensures (tallies c.remove_from-change.ensures); unaltered = refl }
