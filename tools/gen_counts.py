@@ -132,7 +132,7 @@ const LEADS: u64 = %(nleads)d;
 const COUNTS: u32 = %(ncounts)d;
 
 // An entry is so many times how many a word counts, and the word's length.
-const SIZES: u32 = %(sizes)d;
+pub const SIZES: u32 = %(sizes)d;
 
 // How many a word counts, and its length.
 #[derive(Clone, Copy)]

@@ -20,8 +20,13 @@ ghost use Rattle.fr.specs.Rules.{is_mille, french_joiner, cent_word, counts_on, 
 ghost use Rattle.fr.specs.Placed.{Known, Placed, Plural};
 
 use base::{Refusal, Size};
-use settings::{French, Region, Spelling};
+use settings::{French, Region, Settings, Spelling};
 use words::extents::Spaces;
+
+// The numbers of these settings.
+const FEMININE: u8 = 1;
+
+const CH: u8 = 2;
 
 // The places of the words that stand in no table.
 pub const ZERO: u16 = places::ZERO;
@@ -86,10 +91,10 @@ pub fn joiner(settings: French) -> u8
 }
 
 // Whether a unit at this order is `une`.
-pub fn is_une(settings: French, order: usize, u: usize) -> bool
-    ensures { result ≡ is_une (french_numbers_of settings) order u }
+pub fn is_une(settings: Settings, order: usize, u: usize) -> bool
+    ensures { result ≡ is_une settings order u }
 {
-    u == 1 && order == 0 && settings.feminine
+    u == 1 && order == 0 && settings.gender == FEMININE
 }
 
 // Whether the tens digit t is written by the tens word below and a teen.
@@ -100,17 +105,17 @@ pub fn counts_on(settings: French, t: usize) -> bool
 }
 
 // Whether the tens digit t is `quatre-vingt`.
-pub fn four_twenties(settings: French, t: usize) -> bool
-    ensures { result ≡ four_twenties (french_numbers_of settings) t }
+pub fn four_twenties(settings: Settings, t: usize) -> bool
+    ensures { result ≡ four_twenties settings t }
 {
-    t == 8 && settings.region != Region::Ch
+    t == 8 && settings.region != CH
 }
 
 // Whether `et` stands between the tens word and what follows it.
 pub fn takes_et(settings: French, t: usize, u: usize) -> bool
     ensures { result ≡ takes_et (french_numbers_of settings) t u }
 {
-    if u != 1 || four_twenties(settings, t) {
+    if u != 1 || four_twenties(Settings::from(settings), t) {
         return false;
     }
     if t == 9 {
@@ -125,7 +130,7 @@ pub fn unit(settings: French, order: usize, u: usize) -> u16
     requires { (0 < u) × (u < 10) }
     ensures { Placed result (unit_word (french_numbers_of settings) order u) }
 {
-    if is_une(settings, order, u) {
+    if is_une(Settings::from(settings), order, u) {
         return places::UNE;
     }
     places::UNITS[u]
@@ -144,7 +149,7 @@ pub fn ten(settings: French, t: usize) -> u16
     requires { (1 < t) × (t < 10) × (counts_on (french_numbers_of settings) t ≡ false) }
     ensures { Placed result (ten_word (french_numbers_of settings) t) }
 {
-    if four_twenties(settings, t) {
+    if four_twenties(Settings::from(settings), t) {
         return places::QUATRE_VINGT;
     }
     places::TENS[t]
@@ -156,7 +161,7 @@ pub fn round(settings: French, order: usize, t: usize) -> u16
     requires { (1 < t) × (t < 10) × (counts_on (french_numbers_of settings) t ≡ false) }
     ensures { Placed result (round_word (french_numbers_of settings) order t) }
 {
-    if order != 1 && four_twenties(settings, t) {
+    if order != 1 && four_twenties(Settings::from(settings), t) {
         return places::QUATRE_VINGT + 1;
     }
     ten(settings, t)

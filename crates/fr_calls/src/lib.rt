@@ -1,17 +1,12 @@
 #![tactic(auto)]
 // French cardinals and ordinals from bytes to bytes, both ways, and their measures. No phrase is longer than the room that the program keeps for an answer.
-ghost use Rattle.std.specs.Prelude.{◌≡◌, true, ◌≤◌, length};
+ghost use Rattle.std.specs.Prelude.{◌≡◌, ◌≤◌, length};
 ghost use Rattle.base.specs.Answer.{replied, Answers};
 ghost use Rattle.base.specs.Refused.{answer_of, measure_in};
 ghost use Rattle.base.specs.Measure.{measured};
 ghost use Rattle.base.specs.Reading.{Reads};
-ghost use Rattle.base.specs.Room.{most_pieces, phrase_room};
-ghost use Rattle.plan.specs.Phrase.{phrase_of};
-ghost use Rattle.plan.specs.Plan.{pieces};
-ghost use Rattle.fr.specs.Pool.{fr_pool};
+ghost use Rattle.base.specs.Room.{phrase_room};
 ghost use Rattle.settings.specs.Settings.{french_settings};
-ghost use Rattle.settings.specs.Chosen.{french_numbers_of};
-ghost use Rattle.figures.specs.Text.{well_formed, unsigned};
 ghost use Rattle.fr_calls.specs.FrCalls.{fr_to_cardinal, fr_to_ordinal, fr_from_cardinal, fr_from_ordinal};
 
 use base::{Refusal, Size};
@@ -22,25 +17,6 @@ use settings::French;
 
 // The most digits that a number text has: three for each group.
 const DIGITS: usize = 102;
-
-// The plan of an admitted text's cardinal.
-fn plan_cardinal(settings: French, text: &[u8]) -> Plan
-    requires { (well_formed text.now ≡ true) × (length (unsigned text.now) ≤ 102) }
-    ensures { (length result ≤ most_pieces) × (phrase_of (pieces fr_pool result) ≡ (fr_to_cardinal (french_numbers_of settings) text.now).phrase) }
-{
-    let minus = figures::is_negative(text);
-    let number = Number::of_digits(figures::after_sign(text));
-    fr_plan::plan_cardinal(settings, minus, &number)
-}
-
-// The plan of an admitted text's ordinal. The texts are lent.
-fn plan_ordinal(lent: &[u8], settings: French, text: &[u8]) -> Plan
-    requires { (lent.now ≡ fr_pool) × (well_formed text.now ≡ true) × (length (unsigned text.now) ≤ 102) }
-    ensures { (length result ≤ most_pieces) × (phrase_of (pieces fr_pool result) ≡ (fr_to_ordinal (french_numbers_of settings) text.now).phrase) }
-{
-    let number = Number::of_digits(figures::after_sign(text));
-    fr_plan::plan_ordinal(lent, settings, &number)
-}
 
 // The cardinal of a number text.
 #[tactic(auto, using(settings::proofs::Handed::handed))]
@@ -56,7 +32,11 @@ pub fn to_cardinal(
 {
     let settings = French::new(feminine, reformed, region)?;
     judge_cardinal(text, DIGITS)?;
-    fr::speak(plan_cardinal(settings, text).codes(), out)
+    let minus = figures::is_negative(text);
+    let number = Number::of_digits(figures::after_sign(text));
+    let mut plan = Plan::new();
+    fr_plan::plan_cardinal(settings, minus, &number, &mut plan);
+    fr::speak(plan.codes(), out)
 }
 
 // What that phrase measures.
@@ -71,7 +51,11 @@ pub fn measure_cardinal(
 {
     let settings = French::new(feminine, reformed, region)?;
     judge_cardinal(text, DIGITS)?;
-    Ok(fr::measure(plan_cardinal(settings, text).codes()))
+    let minus = figures::is_negative(text);
+    let number = Number::of_digits(figures::after_sign(text));
+    let mut pieces = Plan::new();
+    fr_plan::plan_cardinal(settings, minus, &number, &mut pieces);
+    Ok(fr::measure(pieces.codes()))
 }
 
 // The ordinal of a number text. The texts are made once, for the plan and for its phrase.
@@ -89,7 +73,10 @@ pub fn to_ordinal(
     let settings = French::new(feminine, reformed, region)?;
     judge_ordinal(text, DIGITS)?;
     let lent = fr::texts();
-    plan::speak(&lent, plan_ordinal(&lent, settings, text).codes(), out)
+    let number = Number::of_digits(figures::after_sign(text));
+    let mut plan = Plan::new();
+    fr_plan::plan_ordinal(&lent, settings, &number, &mut plan);
+    plan::speak(&lent, plan.codes(), out)
 }
 
 // What that phrase measures. The texts are made for the plan.
@@ -105,7 +92,10 @@ pub fn measure_ordinal(
     let settings = French::new(feminine, reformed, region)?;
     judge_ordinal(text, DIGITS)?;
     let lent = fr::texts();
-    Ok(fr::measure(plan_ordinal(&lent, settings, text).codes()))
+    let number = Number::of_digits(figures::after_sign(text));
+    let mut pieces = Plan::new();
+    fr_plan::plan_ordinal(&lent, settings, &number, &mut pieces);
+    Ok(fr::measure(pieces.codes()))
 }
 
 // The number text of a cardinal.
@@ -120,7 +110,9 @@ pub fn from_cardinal(
     ensures { Reads (fr_from_cardinal (french_settings feminine reformed region)) said.now (answer_of result) out.old out.new }
 {
     let settings = French::new(feminine, reformed, region)?;
-    numerals::put_read(fr_read::read_cardinal(settings, said), out)
+    let mut number = Number::of_group(0);
+    let minus = fr_read::read_cardinal(settings, said, &mut number);
+    numerals::put_lent(minus, &number, out)
 }
 
 // The number text of an ordinal.
@@ -135,5 +127,7 @@ pub fn from_ordinal(
     ensures { Reads (fr_from_ordinal (french_settings feminine reformed region)) said.now (answer_of result) out.old out.new }
 {
     let settings = French::new(feminine, reformed, region)?;
-    numerals::put_read(fr_read::read_ordinal(settings, said), out)
+    let mut number = Number::of_group(0);
+    let minus = fr_read::read_ordinal(settings, said, &mut number);
+    numerals::put_lent(minus, &number, out)
 }

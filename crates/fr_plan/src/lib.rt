@@ -140,42 +140,40 @@ fn groups(settings: &French, n: usize, gs: &[u16; ORDERS], plan: &mut Plan)
 }
 
 // The plan of a cardinal: zero's word, or the minus word if negative and the groups.
-fn plan_words(settings: French, negative: bool, number: &Number<ORDERS>) -> Plan
-    ensures { let S = french_numbers_of settings in Appended 171 [] result (spaced_by (french_joiner S) (cardinal_words (french S) negative (total number.now.groups))) }
+fn plan_words(settings: French, negative: bool, number: &Number<ORDERS>, plan: &mut Plan)
+    ensures { let S = french_numbers_of settings in Appended 171 [] plan.new (spaced_by (french_joiner S) (cardinal_words (french S) negative (total number.now.groups))) }
 {
-    let mut plan = Plan::new();
+    plan.clear();
     if number.is(0) {
-        join(settings, fr::ZERO, &mut plan);
-        return plan;
+        join(settings, fr::ZERO, plan);
+        return;
     }
     if negative {
-        join(settings, fr::MOINS, &mut plan);
+        join(settings, fr::MOINS, plan);
     }
-    groups(&settings, number.orders, &number.groups, &mut plan);
-    plan
+    groups(&settings, number.orders, &number.groups, plan);
 }
 
-// The plan of a cardinal's phrase.
-pub fn plan_cardinal(settings: French, negative: bool, number: &Number<ORDERS>) -> Plan
-    ensures { (length result ≤ most_pieces) × (phrase_of (pieces fr_pool result) ≡ cardinal_phrase (french (french_numbers_of settings)) negative (total number.now.groups)) }
+// The plan of a cardinal's phrase. It is lent, for a plan that is handed out is copied.
+pub fn plan_cardinal(settings: French, negative: bool, number: &Number<ORDERS>, plan: &mut Plan)
+    ensures { (length plan.new ≤ most_pieces) × (phrase_of (pieces fr_pool plan.new) ≡ cardinal_phrase (french (french_numbers_of settings)) negative (total number.now.groups)) }
 {
-    plan_words(settings, negative, number)
+    plan_words(settings, negative, number, plan);
 }
 
 // The plan of an ordinal's phrase: the cardinal's, with the last word's stem and the ending. The texts are lent.
-pub fn plan_ordinal(lent: &[u8], settings: French, number: &Number<ORDERS>) -> Plan
+pub fn plan_ordinal(lent: &[u8], settings: French, number: &Number<ORDERS>, plan: &mut Plan)
     requires { lent.now ≡ fr_pool }
-    ensures { (length result ≤ most_pieces) × (phrase_of (pieces fr_pool result) ≡ nth_phrase (french_numbers_of settings) (total number.now.groups)) }
+    ensures { (length plan.new ≤ most_pieces) × (phrase_of (pieces fr_pool plan.new) ≡ nth_phrase (french_numbers_of settings) (total number.now.groups)) }
 {
     if number.is(1) {
-        let mut plan = Plan::new();
-        join(settings, fr::PREMIER, &mut plan);
-        return plan;
+        plan.clear();
+        join(settings, fr::PREMIER, plan);
+        return;
     }
-    let mut plan = plan_words(settings, false, number);
+    plan_words(settings, false, number, plan);
     let last = plan.pop();
     let place = fr::stem(lent, (last / SEPARATORS) as u16);
     plan.push((last % SEPARATORS) as u8, place);
     plan.push(ON, fr::IEME);
-    plan
 }

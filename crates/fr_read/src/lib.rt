@@ -4,7 +4,7 @@
 ghost use Rattle.std.specs.Prelude.{◌≡◌, ◌∷◌, ◌++◌, ℕ, ◌+◌, ◌-◌, ◌%◌, ◌≤◌, ◌<◌, length, drop, replicate, is_some, unwrap_or};
 ghost use Rattle.base.specs.Decides.{Decides};
 ghost use Rattle.figures.specs.Groups.{total};
-ghost use Rattle.groups.specs.Read.{ReadOf};
+ghost use Rattle.groups.specs.Read.{read_in, ReadOf};
 ghost use Rattle.settings.specs.Chosen.{french_numbers_of};
 ghost use Rattle.cardinals.specs.Cardinal.{cardinal_phrase};
 ghost use Rattle.cardinals.specs.Grammar.{Says};
@@ -14,8 +14,8 @@ ghost use Rattle.fr.specs.Grammar.{SaysNth};
 ghost use Rattle.groups.specs.Highest.{ZeroFrom};
 ghost use Rattle.fr_read.specs.Reading.{meanings, grow as grow_of, times as times_of, at_least_one, guess as guess_of, seems, groups_read, is_minus, behind_minus, guessed};
 
-use fr_plan::ORDERS;
-use groups::{Figure, Number};
+use fr_plan::{ORDERS, Plan};
+use groups::Number;
 use settings::French;
 
 // The meaning of the minus word, and those of the scale words: an order above this.
@@ -168,12 +168,12 @@ fn groups(k: usize, s: &[u8], out: &mut [u16; ORDERS]) -> usize
 }
 
 // The number that bytes seem to be.
-fn guess(s: &[u8]) -> Number<ORDERS>
-    ensures { result.groups ≡ guessed (meanings s.now) }
+fn guess(s: &[u8], number: &mut Number<ORDERS>)
+    ensures { number.new.groups ≡ guessed (meanings s.now) }
 {
     let mut gs = [0u16; ORDERS];
     let orders = groups(ORDERS, s, &mut gs);
-    Number::of_groups(gs, orders)
+    *number = Number::of_groups(gs, orders);
 }
 
 // How many bytes the minus word and the gap behind it have at the front, if it stands there.
@@ -193,7 +193,8 @@ fn sign(s: &[u8]) -> Option<usize>
 fn is_cardinal(settings: French, negative: bool, number: &Number<ORDERS>, s: &[u8]) -> bool
     ensures { Decides result (cardinal_phrase (french (french_numbers_of settings)) negative (total number.now.groups) ≡ s.now) }
 {
-    let plan = fr_plan::plan_cardinal(settings, negative, number);
+    let mut plan = Plan::new();
+    fr_plan::plan_cardinal(settings, negative, number, &mut plan);
     fr::stands(plan.codes(), s)
 }
 
@@ -202,26 +203,27 @@ fn is_ordinal(settings: French, number: &Number<ORDERS>, s: &[u8]) -> bool
     ensures { Decides result (nth_phrase (french_numbers_of settings) (total number.now.groups) ≡ s.now) }
 {
     let lent = fr::texts();
-    let plan = fr_plan::plan_ordinal(&lent, settings, number);
+    let mut plan = Plan::new();
+    fr_plan::plan_ordinal(&lent, settings, number, &mut plan);
     plan::stands(&lent, plan.codes(), s)
 }
 
-// Any bytes as a cardinal under these settings: what they are by the grammar.
-pub fn read_cardinal(settings: French, s: &[u8]) -> Option<Figure<ORDERS>>
-    ensures { ReadOf (Says (french (french_numbers_of settings)) s.now) result }
+// Any bytes as a cardinal under these settings: what they are by the grammar. The number is lent, for one of 34 groups that is handed out is copied.
+pub fn read_cardinal(settings: French, s: &[u8], number: &mut Number<ORDERS>) -> Option<bool>
+    ensures { ReadOf (Says (french (french_numbers_of settings)) s.now) (read_in result number.new) }
 {
     let minus = sign(s);
     let start = minus.unwrap_or(0);
-    let number = guess(&s[start..]);
-    let stands = is_cardinal(settings, minus.is_some(), &number, s);
-    Figure::read(number, minus.is_some(), stands)
+    guess(&s[start..], number);
+    let stands = is_cardinal(settings, minus.is_some(), number, s);
+    number.sign_read(minus.is_some(), stands)
 }
 
 // Any bytes as an ordinal, which has no sign, under these settings: what they are by the grammar.
-pub fn read_ordinal(settings: French, s: &[u8]) -> Option<Figure<ORDERS>>
-    ensures { ReadOf (SaysNth (french_numbers_of settings) s.now) result }
+pub fn read_ordinal(settings: French, s: &[u8], number: &mut Number<ORDERS>) -> Option<bool>
+    ensures { ReadOf (SaysNth (french_numbers_of settings) s.now) (read_in result number.new) }
 {
-    let number = guess(s);
-    let stands = is_ordinal(settings, &number, s);
-    Figure::read(number, false, stands)
+    guess(s, number);
+    let stands = is_ordinal(settings, number, s);
+    number.sign_read(false, stands)
 }

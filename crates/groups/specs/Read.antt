@@ -10,6 +10,11 @@ use Rattle.groups.specs.declared.figure.Figure.{Figure}
 abbrev pub read_of : {N : ℕ} → Bool → Bool → Number N → Option (Figure N)
 read_of stands minus number = cond stands (Some (record { minus = minus && not (eqb (total number.groups) 0); number = number })) None
 
+-- what was read into a number that was lent: its sign, or nothing
+abbrev pub read_in : {N : ℕ} → Option Bool → Number N → Option (Figure N)
+read_in None number = None
+read_in (Some minus) number = Some (record { minus = minus; number = number })
+
 -- the answer r is right: something is read where the bytes are a sentence with that sign and number, nothing where they are none
 pub record ReadOf {N : ℕ} (Says : Bool → ℕ → Type 0) (r : Option (Figure N)) : Type 0 where
   pub reads : (figure : Figure N) → r ≡ Some figure → Says figure.minus (total figure.number.groups)

@@ -1,6 +1,6 @@
 // What a reader of numbers gives: a number with its sign.
 ghost use Rattle.std.specs.Prelude.{◌≡◌, ◌<◌};
-ghost use Rattle.groups.specs.Read.{read_of};
+ghost use Rattle.groups.specs.Read.{read_of, read_in};
 
 use crate::Number;
 
@@ -22,6 +22,20 @@ impl<const N: usize> Figure<N> {
                 minus: minus && !number.is(0),
                 number,
             })
+        } else {
+            None
+        }
+    }
+}
+
+impl<const N: usize> Number<N> {
+    // The same of a number that is lent: its sign, or nothing.
+    pub fn sign_read(&self, minus: bool, stands: bool) -> Option<bool>
+        requires { 0 < N }
+        ensures { read_in result self.now ≡ read_of stands minus self.now }
+    {
+        if stands {
+            Some(minus && !self.is(0))
         } else {
             None
         }

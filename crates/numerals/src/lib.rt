@@ -8,6 +8,8 @@ ghost use Rattle.base.specs.Answer.{fitted, Answers};
 ghost use Rattle.base.specs.Refused.{answer_of};
 ghost use Rattle.figures.specs.Written.{fixed, decimal, signed_decimal};
 ghost use Rattle.figures.specs.Groups.{total, Groups};
+ghost use Rattle.groups.specs.Highest.{Highest};
+ghost use Rattle.groups.specs.Read.{read_in};
 ghost use Rattle.numerals.specs.Reading.{answered};
 
 use base::Refusal;
@@ -25,16 +27,16 @@ fn group_size(x: u16) -> usize
     }
 }
 
-// The length of a number's text; that of 0 has one digit.
-pub fn text_size<const N: usize>(number: &Number<N>) -> usize
-    requires { (0 < N) × (N ≤ 34) }
-    ensures { result ≡ length (decimal (total number.now.groups)) }
+// The length of the number text of the number with the groups g, of n orders; that of 0 has one digit.
+pub fn text_size(n: usize, g: &[u16]) -> usize
+    requires groups { Groups g.now × Highest g.now n }
+    requires g_nonzero { (0 < length g.now) × (length g.now ≤ 34) }
+    ensures { result ≡ length (decimal (total g.now)) }
 {
-    let n = number.orders;
     if n == 0 {
         return 1;
     }
-    (n - 1) * 3 + group_size(number.groups[n - 1])
+    (n - 1) * 3 + group_size(g[n - 1])
 }
 
 // Writes the last k digits of x, one to three.
@@ -70,51 +72,58 @@ fn put_groups(g: &[u16], o: usize, out: &mut [u8])
 }
 
 // Writes that text, which is w bytes long: the highest group without leading zeros, and the groups below it.
-pub fn put_text<const N: usize>(number: &Number<N>, out: &mut [u8], w: usize)
-    requires few { (0 < N) × (N ≤ 34) }
-    requires w_value { w ≡ length (decimal (total number.now.groups)) }
+pub fn put_text(g: &[u16], out: &mut [u8], w: usize)
+    requires groups { Groups g.now }
+    requires g_nonzero { (0 < length g.now) × (length g.now ≤ 34) }
+    requires w_value { w ≡ length (decimal (total g.now)) }
     requires w_in_bounds { w ≤ length out.old }
-    ensures { out.new ≡ over out.old (decimal (total number.now.groups)) }
+    ensures { out.new ≡ over out.old (decimal (total g.now)) }
 {
     let o = (w - 1) / 3;
     let i = w - o * 3;
-    put_digits(number.groups[o], i, out);
-    put_groups(&number.groups, o, &mut out[i..]);
+    put_digits(g[o], i, out);
+    put_groups(g, o, &mut out[i..]);
 }
 
 // The length of the number text of that number, or of its opposite.
-pub fn number_size<const N: usize>(minus: bool, number: &Number<N>) -> usize
-    requires { (0 < N) × (N ≤ 34) }
-    ensures { (result ≡ length (signed_decimal minus (total number.now.groups))) × (result ≤ 103) }
+pub fn number_size(minus: bool, n: usize, g: &[u16]) -> usize
+    requires groups { Groups g.now × Highest g.now n }
+    requires g_nonzero { (0 < length g.now) × (length g.now ≤ 34) }
+    ensures { (result ≡ length (signed_decimal minus (total g.now))) × (result ≤ 103) }
 {
-    text_size(number) + usize::from(minus)
+    text_size(n, g) + usize::from(minus)
 }
 
 // Writes that text, which is w bytes long.
-pub fn put_signed<const N: usize>(minus: bool, number: &Number<N>, out: &mut [u8], w: usize)
-    requires few { (0 < N) × (N ≤ 34) }
-    requires w_value { w ≡ length (signed_decimal minus (total number.now.groups)) }
+pub fn put_signed(minus: bool, g: &[u16], out: &mut [u8], w: usize)
+    requires groups { Groups g.now }
+    requires g_nonzero { (0 < length g.now) × (length g.now ≤ 34) }
+    requires w_value { w ≡ length (signed_decimal minus (total g.now)) }
     requires w_in_bounds { w ≤ length out.old }
-    ensures { out.new ≡ over out.old (signed_decimal minus (total number.now.groups)) }
+    ensures { out.new ≡ over out.old (signed_decimal minus (total g.now)) }
 {
     if minus {
         out[0] = b'-';
-        put_text(number, &mut out[1..], w - 1);
+        put_text(g, &mut out[1..], w - 1);
     } else {
-        put_text(number, out, w);
+        put_text(g, out, w);
     }
 }
 
-// Writes the text of a figure and returns its length, or is refused where the buffer is shorter.
-fn put_figure<const N: usize>(figure: &Figure<N>, out: &mut [u8]) -> Result<usize, Refusal>
+// Writes the text of a number with its sign and returns its length, or is refused where the buffer is shorter.
+fn put_number<const N: usize>(
+    minus: bool,
+    number: &Number<N>,
+    out: &mut [u8],
+) -> Result<usize, Refusal>
     requires { (0 < N) × (N ≤ 34) }
-    ensures { Answers (answer_of result) out.old out.new (fitted out.old (signed_decimal figure.now.minus (total figure.now.number.groups))) }
+    ensures { Answers (answer_of result) out.old out.new (fitted out.old (signed_decimal minus (total number.now.groups))) }
 {
-    let length = number_size(figure.minus, &figure.number);
+    let length = number_size(minus, number.orders, &number.groups);
     if out.len() < length {
         return Err(Refusal::NoRoom(length));
     }
-    put_signed(figure.minus, &figure.number, out, length);
+    put_signed(minus, &number.groups, out, length);
     Ok(length)
 }
 
@@ -124,7 +133,22 @@ pub fn put_read<const N: usize>(read: Option<Figure<N>>, out: &mut [u8]) -> Resu
     ensures { Answers (answer_of result) out.old out.new (answered read.entry out.old) }
 {
     match read {
-        Some(figure) => put_figure(&figure, out),
+        Some(figure) => put_number(figure.minus, &figure.number, out),
+        None => Err(Refusal::NoSentence),
+    }
+}
+
+// The same of a number that was read into one that is lent, which is not copied: its sign stands beside it.
+pub fn put_lent<const N: usize>(
+    minus: Option<bool>,
+    number: &Number<N>,
+    out: &mut [u8],
+) -> Result<usize, Refusal>
+    requires { (0 < N) × (N ≤ 34) }
+    ensures { Answers (answer_of result) out.old out.new (answered (read_in minus number.now) out.old) }
+{
+    match minus {
+        Some(minus) => put_number(minus, number, out),
         None => Err(Refusal::NoSentence),
     }
 }

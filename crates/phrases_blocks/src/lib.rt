@@ -1,9 +1,10 @@
 #![tactic(auto)]
 // Standard input answered on standard output, block by block.
-ghost use Rattle.std.specs.Prelude.{◌≤◌, length};
+ghost use Rattle.std.specs.Prelude.{◌≡◌, true, ◌≤◌, length};
 ghost use Rattle.base.specs.Room.{line_room};
+ghost use Rattle.phrases_lines.specs.Held.{is_line};
 
-use phrases_lines::Line;
+use phrases_lines::{HELD, Line};
 use std::io;
 use std::io::{Read, Stdin, Stdout, Write};
 
@@ -13,7 +14,11 @@ const BLOCK: usize = 65536;
 // Feeds one block, and writes what comes of it as often as out is full.
 fn pass(block: &[u8], line: &mut Line, out: &mut [u8], output: &mut Stdout) -> io::Result<()>
     requires { line_room ≤ length out.old }
+    ensures line_after { (length line.new ≤ 513) × (is_line line.new ≡ true) }
 {
+    // A line is held before the first turn too.
+    let held = line.bytes();
+    prove!(held.len() <= HELD);
     let mut rest = block;
     while !rest.is_empty() {
         let fed = phrases_lines::feed(rest, line, out);
@@ -26,7 +31,10 @@ fn pass(block: &[u8], line: &mut Line, out: &mut [u8], output: &mut Stdout) -> i
 // Reads and passes on until the input ends. A proved loop has to end, so it counts its turns.
 fn passes(input: &mut Stdin, line: &mut Line, out: &mut [u8], output: &mut Stdout) -> io::Result<()>
     requires { line_room ≤ length out.old }
+    ensures { (length line.new ≤ 513) × (is_line line.new ≡ true) }
 {
+    let held = line.bytes();
+    prove!(held.len() <= HELD);
     let mut block = [0u8; BLOCK];
     for _ in 0..u64::MAX {
         let n = input.read(&mut block)?;

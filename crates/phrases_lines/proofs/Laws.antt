@@ -1,6 +1,6 @@
 -- Laws of one byte: a line's end, a byte that joins the line, one of a line that is too long; and one byte more of a block.
 -- Assumes nothing.
-use Prim.Native.Nat.{ℕ, ◌+◌, ◌-◌, ◌≤◌, ◌<◌}
+use Prim.Native.Nat.{ℕ, ◌+◌, ◌≤◌, ◌<◌}
 use native.Mathlib.Numerals.{add-one}
 use mathlib.Core.Path.{◌≡◌, refl, sym, ap, ◌∙◌}
 use mathlib.Core.Bool.{Bool, true, false, cond}
@@ -40,18 +40,21 @@ pushed line n b h = rw add-one (take-suc-set line n b h)
 pub joined : (line : List ℕ) (n b : ℕ) → n < length line → is_line (take n line) ≡ true → (b ≡ 10 → ⊥) → is_line (take (n + 1) (set line n b)) ≡ true
 joined line n b h l z = rw (pushed line n b h) (line_on (take n line) b l z)
 
+-- bytes copied to the front of a longer line
+pub laid : (line ys : List ℕ) (n : ℕ) → n ≡ length ys → take n (put_mid 0 n line ys) ≡ ys
+laid line ys n e = take_at ys (drop n line) n (sym e)
+
 -- what a call wrote to a part of a buffer stands behind its first u bytes
 written : (xs ys : List ℕ) (u n r : ℕ) → u ≤ length xs → r ≤ length ys → take (u + r) (put_mid u n xs ys) ≡ take u xs ++ take r ys
 written xs ys u n r h k =
     ap (λ (m : ℕ). take (m + r) (put_mid u n xs ys)) (sym (length-take-le u xs h)) ∙ take-append-add (take u xs) (ys ++ drop n (drop u xs)) r
     ∙ ap (λ (l : List ℕ). take u xs ++ l) (take-append-le r ys (drop n (drop u xs)) k)
 
--- one byte more of a block: u bytes of out were written for those before it, and r with it
-pub one_more_lem : (p block out ys q q' : List ℕ) (i u n r : ℕ) → i < length block → u ≤ length out → r ≤ length ys
-    → Answered p (take i block) (take u out) q → Answered q (get_or block i 0 ∷ []) (take r ys) q'
-    → Answered p (take (i + 1) block) (take (u + r) (put_mid u n out ys)) q'
-one_more_lem p block out ys q q' i u n r h k l a b rest =
-    let x : ℕ = get_or block i 0 in
-    let e : take (i + 1) block ++ rest ≡ take i block ++ (x ∷ rest) = rw (add-one, take-suc block i 0 h) (append_assoc (take i block) (x ∷ []) rest) in
-    ap (λ (m : List ℕ). program (p ++ m)) e ∙ a (x ∷ rest) ∙ ap (λ (m : List ℕ). take u out ++ m) (b rest)
-    ∙ sym (append_assoc (take u out) (take r ys) (program (q' ++ rest))) ∙ ap (λ (m : List ℕ). m ++ program (q' ++ rest)) (sym (written out ys u n r k l))
+-- one byte more of a block, b: u bytes of out were written for those before it, r for it, and v with it
+pub one_more_lem : (p block out ys q q' : List ℕ) (i u n r v b : ℕ) → i < length block → u ≤ length out → r ≤ length ys → v ≡ u + r → b ≡ get_or block i 0
+    → Answered p (take i block) (take u out) q → Answered q (b ∷ []) (take r ys) q'
+    → Answered p (take (i + 1) block) (take v (put_mid u n out ys)) q'
+one_more_lem p block out ys q q' i u n r v b h k l s f a g rest =
+    let e : take (i + 1) block ++ rest ≡ take i block ++ (b ∷ rest) = rw (add-one, take-suc block i 0 h, f) (append_assoc (take i block) (get_or block i 0 ∷ []) rest) in
+    ap (λ (m : List ℕ). program (p ++ m)) e ∙ a (b ∷ rest) ∙ ap (λ (m : List ℕ). take u out ++ m) (g rest)
+    ∙ sym (append_assoc (take u out) (take r ys) (program (q' ++ rest))) ∙ ap (λ (m : List ℕ). m ++ program (q' ++ rest)) (sym (ap (λ (m : ℕ). take m (put_mid u n out ys)) s ∙ written out ys u n r k l))

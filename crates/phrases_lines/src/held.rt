@@ -1,11 +1,11 @@
 // A line whose end has not come in.
-ghost use Rattle.std.specs.Prelude.{◌≡◌, ℕ, true, cond, List, [], ◌∷◌, ◌++◌, ltb, length};
+ghost use Rattle.std.specs.Prelude.{◌≡◌, ℕ, true, cond, List, [], ◌∷◌, ◌++◌, ◌≤◌, ltb, length};
 ghost use Rattle.phrases_lines.specs.Held.{is_line};
 
 use std::marker::Model;
 
 // How many bytes of a line are held: one more than the longest has, so that a longer one is known.
-const HELD: usize = 513;
+pub const HELD: usize = 513;
 
 // The bytes of the line, without a line feed; of a line longer than 512 bytes the first 513: they tell that it is too long. Clauses see the bytes.
 #[derive(Drop)]
@@ -37,9 +37,24 @@ impl Line {
         }
     }
 
+    // A line of which these bytes came in.
+    #[tactic(auto, using(crate::proofs::Laws::laid), unfolding(crate::specs::Held::is_line))]
+    pub fn holding(bytes: &[u8]) -> Line
+        requires { (length bytes.now ≤ 513) × (is_line bytes.now ≡ true) }
+        ensures { result ≡ bytes.now }
+    {
+        let mut held = [0; HELD];
+        held[..bytes.len()].copy_from_slice(bytes);
+        Line {
+            bytes: held,
+            len: bytes.len(),
+        }
+    }
+
     // The bytes that are held.
     pub fn bytes(&self) -> &[u8]
         ensures value { result.now ≡ self.now }
+        ensures short { length result.now ≤ 513 }
         ensures line { is_line result.now ≡ true }
     {
         &self.bytes[..self.len]
@@ -51,6 +66,8 @@ impl Line {
         requires { b ≡ 10 → ⊥ }
         ensures value { self.new ≡ cond (ltb (length self.old) 513) (self.old ++ (b ∷ [])) self.old }
         ensures line { is_line self.old ≡ true }
+        ensures short_after { length self.new ≤ 513 }
+        ensures line_after { is_line self.new ≡ true }
     {
         if self.len < HELD {
             self.bytes[self.len] = b;

@@ -8,7 +8,7 @@ ghost use Rattle.base.specs.Room.{line_room};
 ghost use Rattle.phrases_lines.specs.Program.{program, Answered};
 ghost use Rattle.phrases_lines.specs.Held.{is_line};
 
-pub use held::Line;
+pub use held::{HELD, Line};
 
 // How much room the next answer may need: `line_room`.
 const ROOM: usize = 6881;
@@ -23,7 +23,8 @@ pub struct Fed {
 // One byte, a block of one: at a line's end its answer is written over the front of out; any other byte joins the line.
 fn take_byte(b: u8, line: &mut Line, out: &mut [u8]) -> usize
     requires { line_room ≤ length out.old }
-    ensures bound { result ≤ length out.old }
+    ensures bound { (length line.new ≤ 513) × (result ≤ length out.old) }
+    ensures line_after { is_line line.new ≡ true }
     ensures answered { Answered line.old (b ∷ []) (take result out.new) line.new }
 {
     if b == b'\n' {
@@ -37,11 +38,15 @@ fn take_byte(b: u8, line: &mut Line, out: &mut [u8]) -> usize
 
 // Reads a block until it ends, or until out may not hold the next answer. Where out has room for an answer, a byte at least is read.
 pub fn feed(block: &[u8], line: &mut Line, out: &mut [u8]) -> Fed
-    ensures at_in_bounds { (result.at ≤ length block.now) × (result.used ≤ length out.old) }
+    ensures at_in_bounds { (result.at ≤ length block.now) × (length line.new ≤ 513) × (result.used ≤ length out.old) }
+    ensures line_after { is_line line.new ≡ true }
     ensures answered { Answered line.old (take result.at block.now) (take result.used out.new) line.new }
     ensures out_len_bound { result.at < length block.now → length out.old < result.used + line_room }
     ensures at_nonzero { line_room ≤ length out.old → 0 < length block.now → 0 < result.at }
 {
+    // A line is held before the first byte too.
+    let held = line.bytes();
+    prove!(held.len() <= HELD);
     let mut used = 0;
     for (at, b) in block.iter().enumerate() {
         if out.len() - used < ROOM {

@@ -41,6 +41,13 @@ impl<const N: usize> Plan<N> {
         }
     }
 
+    // Takes all pieces off.
+    pub fn clear(&mut self)
+        ensures { self.new ≡ [] }
+    {
+        self.len = 0;
+    }
+
     // Adds a piece.
     pub fn push(&mut self, separator: u8, place: u16)
         requires { length self.old < N }

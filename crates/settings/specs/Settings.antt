@@ -1,16 +1,11 @@
 -- The settings of a call, one record for both languages, and their ranges (01, "From the repository, and added"; 02).
 -- Assumes nothing.
 use Rattle.std.specs.Prelude.{ℕ, ◌<◌, Bool, true, ◌&&◌, List, [], ◌∷◌, ltb}
+use Rattle.settings.specs.declared.Settings as declared
 
 -- the numbers of a call's settings. A language leaves the fields that it does not have at 0
-pub record Settings : Type 0 where
-  pub gender : ℕ
-  pub number : ℕ
-  pub case : ℕ
-  pub reformed : ℕ
-  pub region : ℕ
-  pub apostrophe : ℕ
-  pub style : ℕ
+abbrev pub Settings : Type 0
+Settings = declared.Settings
 
 -- 01's numbers of genders ("French: feminine 0 or 1"), of grammatical numbers, of cases "in `Declension`'s order", of spellings and of regions
 abbrev pub masculine : ℕ

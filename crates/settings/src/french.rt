@@ -1,8 +1,9 @@
 // French settings.
 ghost use Rattle.std.specs.Prelude.{◌≡◌};
 ghost use Rattle.settings.specs.Settings.{french_settings};
-ghost use Rattle.settings.specs.Chosen.{spelling_number, region_number, Numbered, ChoosesFrench};
+ghost use Rattle.settings.specs.Chosen.{spelling_number, region_number, french_numbers_of, Numbered, ChoosesFrench};
 
+use crate::Settings;
 use base::Refusal;
 
 // How words are joined: by spaces, or by hyphens as reformed.
@@ -69,5 +70,21 @@ impl French {
             spelling: Spelling::try_from(reformed)?,
             region: Region::try_from(region)?,
         })
+    }
+}
+
+impl From<French> for Settings {
+    ghost from_gives = { λ settings numbers. numbers ≡ french_numbers_of settings };
+
+    fn from(settings: French) -> Settings {
+        Settings {
+            gender: u8::from(settings.feminine),
+            number: 0,
+            case: 0,
+            reformed: settings.spelling as u8,
+            region: settings.region as u8,
+            apostrophe: 0,
+            style: 0,
+        }
     }
 }

@@ -2,8 +2,9 @@
 ghost use Rattle.std.specs.Prelude.{◌≡◌, ◌≤◌, Ok, Err};
 ghost use Rattle.base.specs.declared.Refusal.TheVariants.{WrongSetting};
 ghost use Rattle.settings.specs.Settings.{ukrainian_settings};
-ghost use Rattle.settings.specs.Chosen.{gender_number, grammatical_number, case_number, apostrophe_number, style_number, Numbered, Chooses};
+ghost use Rattle.settings.specs.Chosen.{gender_number, grammatical_number, case_number, apostrophe_number, style_number, numbers_of, Numbered, Chooses};
 
+use crate::Settings;
 use base::Refusal;
 
 #[derive(Clone, Copy, PartialEq, Eq)]
@@ -147,5 +148,21 @@ impl Ukrainian {
             apostrophe: Apostrophe::try_from(apostrophe)?,
             style: Style::try_from(style)?,
         })
+    }
+}
+
+impl From<Ukrainian> for Settings {
+    ghost from_gives = { λ settings numbers. numbers ≡ numbers_of settings };
+
+    fn from(settings: Ukrainian) -> Settings {
+        Settings {
+            gender: settings.gender as u8,
+            number: settings.number as u8,
+            case: settings.case as u8,
+            reformed: 0,
+            region: 0,
+            apostrophe: settings.apostrophe as u8,
+            style: settings.style as u8,
+        }
     }
 }

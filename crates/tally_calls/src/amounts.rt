@@ -10,6 +10,7 @@ ghost use Rattle.uk_money.specs.Money.{amount_phrase};
 
 use base::Refusal;
 use groups::Number;
+use plan::Plan;
 use settings::Ukrainian;
 use tally::{Place, Sum};
 use uk_money::CurrencyId;
@@ -39,6 +40,7 @@ pub fn speak_sum(
     ensures { Answers (answer_of result) out.old out.new (fitted out.old (amount_phrase (numbers_of settings) (currency_at currency.place) sum.whole sum.hundredths)) }
 {
     let whole = Number::of(sum.whole);
-    let plan = uk_money_plan::plan_money(settings, currency, &whole, sum.hundredths);
+    let mut plan = Plan::new();
+    uk_money_plan::plan_money(settings, currency, &whole, sum.hundredths, &mut plan);
     uk::speak(plan.codes(), out)
 }

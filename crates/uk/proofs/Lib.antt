@@ -4,4 +4,3 @@ pub mod Laws
 pub mod Words
 pub mod Apostrophes
 pub mod Lent
-pub mod Counted

@@ -82,7 +82,6 @@ pub fn speak(plan: &[u32], out: &mut [u8]) -> Result<usize, Refusal>
 }
 
 // The size of what it says: the texts are not made for it.
-#[tactic(auto, using(crate::proofs::Counted::counted))]
 pub fn measure(plan: &[u32]) -> Size
     requires { length plan.now ≤ 1000 }
     ensures { result ≡ size_of (phrase_of (pieces uk_pool plan.now)) }
@@ -96,7 +95,6 @@ pub fn measure(plan: &[u32]) -> Size
 }
 
 // The length of the text at a place.
-#[tactic(auto, using(crate::proofs::Counted::counted))]
 pub fn len(place: u16) -> usize
     ensures { result ≡ length (part uk_pool place) }
 {

@@ -1,17 +1,12 @@
 #![tactic(auto)]
 // Ukrainian cardinals from bytes to bytes, both ways, and their measure. No phrase is longer than the room that the program keeps for an answer.
-ghost use Rattle.std.specs.Prelude.{◌≡◌, true, ◌≤◌, length};
+ghost use Rattle.std.specs.Prelude.{◌≡◌, ◌≤◌, length};
 ghost use Rattle.base.specs.Answer.{replied, Answers};
 ghost use Rattle.base.specs.Refused.{answer_of, measure_in};
 ghost use Rattle.base.specs.Measure.{measured};
 ghost use Rattle.base.specs.Reading.{Reads as ReadsAs};
 ghost use Rattle.base.specs.Room.{phrase_room};
 ghost use Rattle.settings.specs.Settings.{ukrainian_settings};
-ghost use Rattle.settings.specs.Chosen.{numbers_of};
-ghost use Rattle.plan.specs.Phrase.{phrase_of};
-ghost use Rattle.plan.specs.Plan.{pieces};
-ghost use Rattle.uk.specs.Pool.{uk_pool};
-ghost use Rattle.figures.specs.Text.{well_formed, unsigned};
 ghost use Rattle.uk_calls.specs.UkCardinals.{uk_to_cardinal, uk_from_cardinal};
 
 use base::{Refusal, Size};
@@ -20,17 +15,6 @@ use groups::Number;
 use plan::Plan;
 use settings::Ukrainian;
 use uk::DIGITS;
-use uk_plan::PLAN;
-
-// The plan of an admitted text.
-fn plan_text(settings: Ukrainian, text: &[u8]) -> Plan<PLAN>
-    requires { (well_formed text.now ≡ true) × (length (unsigned text.now) ≤ 66) }
-    ensures { (length result ≤ 111) × (phrase_of (pieces uk_pool result) ≡ (uk_to_cardinal (numbers_of settings) text.now).phrase) }
-{
-    let minus = figures::is_negative(text);
-    let number = Number::of_digits(figures::after_sign(text));
-    uk_plan::plan_cardinal(settings, minus, &number)
-}
 
 // The cardinal of a number text.
 #[tactic(auto, using(settings::proofs::Handed::handed))]
@@ -48,7 +32,11 @@ pub fn to_cardinal(
 {
     let settings = Ukrainian::new(gender, number, case, apostrophe, style)?;
     judge_cardinal(text, DIGITS)?;
-    uk::speak(plan_text(settings, text).codes(), out)
+    let minus = figures::is_negative(text);
+    let number = Number::of_digits(figures::after_sign(text));
+    let mut plan = Plan::new();
+    uk_plan::plan_cardinal(settings, minus, &number, &mut plan);
+    uk::speak(plan.codes(), out)
 }
 
 // What that phrase measures.
@@ -65,7 +53,11 @@ pub fn measure_cardinal(
 {
     let settings = Ukrainian::new(gender, number, case, apostrophe, style)?;
     judge_cardinal(text, DIGITS)?;
-    Ok(uk::measure(plan_text(settings, text).codes()))
+    let minus = figures::is_negative(text);
+    let number = Number::of_digits(figures::after_sign(text));
+    let mut pieces = Plan::new();
+    uk_plan::plan_cardinal(settings, minus, &number, &mut pieces);
+    Ok(uk::measure(pieces.codes()))
 }
 
 // The number text of a cardinal.

@@ -20,7 +20,7 @@ const LEADS: u64 = 100;
 const COUNTS: u32 = 64;
 
 // An entry is so many times how many a word counts, and the word's length.
-const SIZES: u32 = 64;
+pub const SIZES: u32 = 64;
 
 // How many a word counts, and its length.
 #[derive(Clone, Copy)]

@@ -8,15 +8,9 @@ ghost use Rattle.base.specs.Refused.{answer_of, measure_in};
 ghost use Rattle.base.specs.Measure.{measured};
 ghost use Rattle.base.specs.Reading.{Reads as ReadsAs};
 ghost use Rattle.base.specs.Room.{phrase_room};
-ghost use Rattle.plan.specs.Phrase.{phrase_of};
-ghost use Rattle.plan.specs.Plan.{pieces};
-ghost use Rattle.uk.specs.Pool.{uk_pool};
 ghost use Rattle.settings.specs.Settings.{ukrainian_settings};
 ghost use Rattle.settings.specs.Chosen.{numbers_of};
-ghost use Rattle.figures.specs.Money.{whole_of, hundredths_of};
-ghost use Rattle.figures.specs.Refusals.{amount_refusals, Admitted};
 ghost use Rattle.uk_money.specs.Rows.{currency_at};
-ghost use Rattle.uk_money.specs.Money.{amount_phrase};
 ghost use Rattle.uk_money_calls.specs.MoneyCalls.{uk_to_currency, amount_reading, uk_from_currency};
 
 use base::{Refusal, Size};
@@ -25,18 +19,6 @@ use groups::Number;
 use plan::Plan;
 use settings::Ukrainian;
 use uk_money::CurrencyId;
-use uk_money_plan::PLAN;
-
-// The plan of an admitted text.
-fn plan_text(settings: Ukrainian, currency: CurrencyId, text: &[u8]) -> Plan<PLAN>
-    requires { Admitted (amount_refusals text.now) }
-    ensures { (length result ≤ 50) × (phrase_of (pieces uk_pool result) ≡ amount_phrase (numbers_of settings) (currency_at currency.place) (whole_of text.now) (hundredths_of text.now)) }
-{
-    let whole = figures::money::whole_part(text);
-    let number = Number::of_digits(figures::after_sign(whole));
-    let hundredths = figures::value_of(figures::money::hundredths_part(text)) as u32;
-    uk_money_plan::plan_money(settings, currency, &number, hundredths)
-}
 
 // Any bytes, read under settings for a currency.
 fn read(
@@ -71,7 +53,12 @@ pub fn to_currency(
     let settings = Ukrainian::new(gender, number, case, apostrophe, style)?;
     let currency = uk_money::code_of(code).ok_or(Refusal::WrongCode)?;
     judge_amount(text)?;
-    uk::speak(plan_text(settings, currency, text).codes(), out)
+    let whole = figures::money::whole_part(text);
+    let number = Number::of_digits(figures::after_sign(whole));
+    let hundredths = figures::value_of(figures::money::hundredths_part(text)) as u32;
+    let mut plan = Plan::new();
+    uk_money_plan::plan_money(settings, currency, &number, hundredths, &mut plan);
+    uk::speak(plan.codes(), out)
 }
 
 // What that phrase measures.
@@ -90,7 +77,12 @@ pub fn measure_currency(
     let settings = Ukrainian::new(gender, number, case, apostrophe, style)?;
     let currency = uk_money::code_of(code).ok_or(Refusal::WrongCode)?;
     judge_amount(text)?;
-    Ok(uk::measure(plan_text(settings, currency, text).codes()))
+    let whole = figures::money::whole_part(text);
+    let number = Number::of_digits(figures::after_sign(whole));
+    let hundredths = figures::value_of(figures::money::hundredths_part(text)) as u32;
+    let mut pieces = Plan::new();
+    uk_money_plan::plan_money(settings, currency, &number, hundredths, &mut pieces);
+    Ok(uk::measure(pieces.codes()))
 }
 
 // The money text of an amount.

@@ -127,16 +127,16 @@ pub fn plan_money(
     currency: CurrencyId,
     whole: &Number<ORDERS>,
     hundredths: u32,
-) -> Plan<PLAN>
+    plan: &mut Plan<PLAN>,
+)
     requires { (whole.now.orders ≤ 7) × (hundredths < 100) }
-    ensures { (length result ≤ 50) × (phrase_of (pieces uk_pool result) ≡ amount_phrase (numbers_of settings) (currency_at currency.place) (total whole.now.groups) hundredths) }
+    ensures { (length plan.new ≤ 50) × (phrase_of (pieces uk_pool plan.new) ≡ amount_phrase (numbers_of settings) (currency_at currency.place) (total whole.now.groups) hundredths) }
 {
-    let mut plan = Plan::new();
+    plan.clear();
     if hundredths == 0 || !whole.is(0) {
-        say_main(settings, currency, whole, &mut plan);
+        say_main(settings, currency, whole, plan);
     }
     if hundredths != 0 {
-        say_fraction(settings, currency, hundredths, &mut plan);
+        say_fraction(settings, currency, hundredths, plan);
     }
-    plan
 }

@@ -15,6 +15,7 @@ ghost use Rattle.uk_money_read.specs.Behind.{behind};
 ghost use Rattle.uk_money_read.specs.Promise.{ReadMoney};
 
 use groups::Number;
+use plan::Plan;
 use settings::Ukrainian;
 use uk::ORDERS;
 use uk_money::CurrencyId;
@@ -100,7 +101,8 @@ fn is_phrase(
     requires { (whole.now.orders ≤ 7) × (hundredths < 100) }
     ensures { Decides result (amount_phrase (numbers_of settings) (currency_at currency.place) (total whole.now.groups) hundredths ≡ s.now) }
 {
-    let plan = uk_money_plan::plan_money(settings, currency, whole, hundredths);
+    let mut plan = Plan::new();
+    uk_money_plan::plan_money(settings, currency, whole, hundredths, &mut plan);
     uk::stands(plan.codes(), s)
 }
 

@@ -3,17 +3,12 @@
 mod digits; // digits.rt: digit ordinals
 pub mod reading; // reading.rt: the way back
 
-ghost use Rattle.std.specs.Prelude.{◌≡◌, true, ◌≤◌, length};
+ghost use Rattle.std.specs.Prelude.{◌≡◌, ◌≤◌};
 ghost use Rattle.base.specs.Answer.{replied, Answers};
 ghost use Rattle.base.specs.Refused.{answer_of, measure_in};
 ghost use Rattle.base.specs.Measure.{measured};
 ghost use Rattle.base.specs.Room.{phrase_room};
-ghost use Rattle.plan.specs.Phrase.{phrase_of};
-ghost use Rattle.plan.specs.Plan.{pieces};
-ghost use Rattle.uk.specs.Pool.{uk_pool};
-ghost use Rattle.figures.specs.Text.{plain};
 ghost use Rattle.settings.specs.Settings.{ukrainian_settings};
-ghost use Rattle.settings.specs.Chosen.{numbers_of};
 ghost use Rattle.uk_ordinal.specs.Year.{early};
 ghost use Rattle.uk_ordinal_calls.specs.UkOrdinals.{uk_to_ordinal, uk_to_ordinal_num, uk_to_year};
 
@@ -23,30 +18,12 @@ use groups::Number;
 use plan::Plan;
 use settings::Ukrainian;
 use uk::DIGITS;
-use uk_plan::PLAN;
 
 // Whether a year is 0 or below.
 fn is_early(year: i64) -> bool
     ensures { result ≡ early year }
 {
     year <= 0
-}
-
-// The plan of an admitted text's ordinal.
-fn plan_text(settings: Ukrainian, text: &[u8]) -> Plan<PLAN>
-    requires { (plain text.now ≡ true) × (length text.now ≤ 66) }
-    ensures { (length result ≤ 116) × (phrase_of (pieces uk_pool result) ≡ (uk_to_ordinal (numbers_of settings) text.now).phrase) }
-{
-    uk_ordinal_plan::plan_ordinal(settings, &Number::of_digits(text))
-}
-
-// The plan of a year.
-#[tactic(auto, using(crate::proofs::Admitted::year_laws))]
-fn plan_year(settings: Ukrainian, year: i64) -> Plan<PLAN>
-    ensures { (length result ≤ 119) × (phrase_of (pieces uk_pool result) ≡ (uk_to_year (numbers_of settings) year).phrase) }
-{
-    let magnitude = Number::of(year.unsigned_abs());
-    uk_ordinal_plan::plan_year(settings, is_early(year), &magnitude)
 }
 
 // The ordinal of a number text.
@@ -65,7 +42,10 @@ pub fn to_ordinal(
 {
     let settings = Ukrainian::new(gender, number, case, apostrophe, style)?;
     judge_ordinal(text, DIGITS)?;
-    uk::speak(plan_text(settings, text).codes(), out)
+    let magnitude = Number::of_digits(text);
+    let mut plan = Plan::new();
+    uk_ordinal_plan::plan_ordinal(settings, &magnitude, &mut plan);
+    uk::speak(plan.codes(), out)
 }
 
 // What that phrase measures.
@@ -82,7 +62,10 @@ pub fn measure_ordinal(
 {
     let settings = Ukrainian::new(gender, number, case, apostrophe, style)?;
     judge_ordinal(text, DIGITS)?;
-    Ok(uk::measure(plan_text(settings, text).codes()))
+    let magnitude = Number::of_digits(text);
+    let mut pieces = Plan::new();
+    uk_ordinal_plan::plan_ordinal(settings, &magnitude, &mut pieces);
+    Ok(uk::measure(pieces.codes()))
 }
 
 // The digit ordinal of a number text.
@@ -122,7 +105,7 @@ pub fn measure_ordinal_num(
 }
 
 // The phrase of a year.
-#[tactic(auto, using(settings::proofs::Handed::handed))]
+#[tactic(auto, using(settings::proofs::Handed::handed, crate::proofs::Admitted::year_laws))]
 pub fn to_year(
     gender: u32,
     number: u32,
@@ -136,11 +119,14 @@ pub fn to_year(
     ensures length_le_phrase_room { (answer_of result).length ≤ phrase_room }
 {
     let settings = Ukrainian::new(gender, number, case, apostrophe, style)?;
-    uk::speak(plan_year(settings, year).codes(), out)
+    let magnitude = Number::of(year.unsigned_abs());
+    let mut plan = Plan::new();
+    uk_ordinal_plan::plan_year(settings, is_early(year), &magnitude, &mut plan);
+    uk::speak(plan.codes(), out)
 }
 
 // What it measures.
-#[tactic(auto, using(settings::proofs::Handed::handed))]
+#[tactic(auto, using(settings::proofs::Handed::handed, crate::proofs::Admitted::year_laws))]
 pub fn measure_year(
     gender: u32,
     number: u32,
@@ -152,5 +138,8 @@ pub fn measure_year(
     ensures { measure_in result ≡ measured (uk_to_year (ukrainian_settings gender number case apostrophe style) year) }
 {
     let settings = Ukrainian::new(gender, number, case, apostrophe, style)?;
-    Ok(uk::measure(plan_year(settings, year).codes()))
+    let absolute = Number::of(year.unsigned_abs());
+    let mut pieces = Plan::new();
+    uk_ordinal_plan::plan_year(settings, is_early(year), &absolute, &mut pieces);
+    Ok(uk::measure(pieces.codes()))
 }

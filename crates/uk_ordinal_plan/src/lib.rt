@@ -108,25 +108,28 @@ fn say_era<const N: usize>(early: bool, plan: &mut Plan<N>)
 }
 
 // The plan of an ordinal under these settings: it says the ordinal's words, joined.
-pub fn plan_ordinal(settings: Ukrainian, number: &Number<ORDERS>) -> Plan<PLAN>
-    ensures { (length result ≤ 116) × (phrase_of (pieces uk_pool result) ≡ joined (ordinal_words (numbers_of settings) (total number.now.groups))) }
+pub fn plan_ordinal(settings: Ukrainian, number: &Number<ORDERS>, plan: &mut Plan<PLAN>)
+    ensures { (length plan.new ≤ 116) × (phrase_of (pieces uk_pool plan.new) ≡ joined (ordinal_words (numbers_of settings) (total number.now.groups))) }
 {
-    let mut plan = Plan::new();
-    say_ordinal(settings, number, &mut plan);
-    plan
+    plan.clear();
+    say_ordinal(settings, number, plan);
 }
 
 // The plan of a year under these settings, from its magnitude; early is whether it is 0 or below.
-pub fn plan_year(settings: Ukrainian, early: bool, magnitude: &Number<ORDERS>) -> Plan<PLAN>
-    ensures { (length result ≤ 119) × (let S = numbers_of settings in phrase_of (pieces uk_pool result) ≡ joined (ordinal_words (in_gender masculine S) (total magnitude.now.groups) ++ (year_noun S ∷ era_words early))) }
+pub fn plan_year(
+    settings: Ukrainian,
+    early: bool,
+    magnitude: &Number<ORDERS>,
+    plan: &mut Plan<PLAN>,
+)
+    ensures { (length plan.new ≤ 119) × (let S = numbers_of settings in phrase_of (pieces uk_pool plan.new) ≡ joined (ordinal_words (in_gender masculine S) (total magnitude.now.groups) ++ (year_noun S ∷ era_words early))) }
 {
-    let mut plan = Plan::new();
+    plan.clear();
     let masculine = Ukrainian {
         gender: Gender::Masculine,
         ..settings
     };
-    say_ordinal(masculine, magnitude, &mut plan);
+    say_ordinal(masculine, magnitude, plan);
     plan.push_word(uk_ordinal::year_word(settings));
-    say_era(early, &mut plan);
-    plan
+    say_era(early, plan);
 }

@@ -19,6 +19,7 @@ ghost use Rattle.uk_ordinal_read.specs.Guess.{ordinal_groups};
 ghost use Rattle.uk_ordinal_read.specs.Promise.{SaysOrdinal, SaysYear};
 
 use groups::{Figure, Number};
+use plan::Plan;
 use settings::{Gender, Ukrainian};
 use uk::ORDERS;
 
@@ -67,7 +68,8 @@ pub fn read_ordinal(settings: Ukrainian, s: &[u8]) -> Option<Figure<ORDERS>>
     ensures { ReadOf (SaysOrdinal (numbers_of settings) s.now) result }
 {
     let number = guess(settings, s);
-    let plan = uk_ordinal_plan::plan_ordinal(settings, &number);
+    let mut plan = Plan::new();
+    uk_ordinal_plan::plan_ordinal(settings, &number, &mut plan);
     let stands = uk::stands(plan.codes(), s);
     Figure::read(number, false, stands)
 }
@@ -76,7 +78,8 @@ pub fn read_ordinal(settings: Ukrainian, s: &[u8]) -> Option<Figure<ORDERS>>
 fn is_phrase(settings: Ukrainian, early: bool, magnitude: &Number<ORDERS>, s: &[u8]) -> bool
     ensures { let S = numbers_of settings in Decides result (joined (ordinal_words (in_gender masculine S) (total magnitude.now.groups) ++ (year_noun S ∷ era_words early)) ≡ s.now) }
 {
-    let plan = uk_ordinal_plan::plan_year(settings, early, magnitude);
+    let mut plan = Plan::new();
+    uk_ordinal_plan::plan_year(settings, early, magnitude, &mut plan);
     uk::stands(plan.codes(), s)
 }
 

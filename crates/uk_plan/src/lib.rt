@@ -143,11 +143,15 @@ pub fn say_cardinal<const N: usize>(
     say_groups(settings, number.orders, &number.groups, plan);
 }
 
-// The plan of a cardinal under these settings: it says the cardinal's phrase.
-pub fn plan_cardinal(settings: Ukrainian, negative: bool, number: &Number<ORDERS>) -> Plan<PLAN>
-    ensures { (length result ≤ 111) × (phrase_of (pieces uk_pool result) ≡ cardinal_phrase (ukrainian (numbers_of settings)) negative (total number.now.groups)) }
+// The plan of a cardinal under these settings: it says the cardinal's phrase. It is lent, for a plan that is handed out is copied.
+pub fn plan_cardinal(
+    settings: Ukrainian,
+    negative: bool,
+    number: &Number<ORDERS>,
+    plan: &mut Plan<PLAN>,
+)
+    ensures { (length plan.new ≤ 111) × (phrase_of (pieces uk_pool plan.new) ≡ cardinal_phrase (ukrainian (numbers_of settings)) negative (total number.now.groups)) }
 {
-    let mut plan = Plan::new();
-    say_cardinal(settings, negative, number, &mut plan);
-    plan
+    plan.clear();
+    say_cardinal(settings, negative, number, plan);
 }

@@ -12,6 +12,7 @@ ghost use Rattle.cardinals.specs.Grammar.{Says};
 ghost use Rattle.uk_read.specs.Reading.{taken, sums, left, signed, after_minus};
 
 use groups::{Figure, Number};
+use plan::Plan;
 use settings::Ukrainian;
 use uk::ORDERS;
 
@@ -126,7 +127,8 @@ pub fn read_cardinal(settings: Ukrainian, s: &[u8]) -> Option<Figure<ORDERS>>
     let mut gs = [0u16; ORDERS];
     let span = groups(ORDERS, &s[start..], &mut gs);
     let number = Number::of_groups(gs, span.orders);
-    let plan = uk_plan::plan_cardinal(settings, sign.is_some(), &number);
+    let mut plan = Plan::new();
+    uk_plan::plan_cardinal(settings, sign.is_some(), &number, &mut plan);
     let stands = uk::stands(plan.codes(), s);
     Figure::read(number, sign.is_some(), stands)
 }

@@ -25,32 +25,32 @@ use Rattle.fr_plan.proofs.Endings.{some_codes, last_known, ended}
 use Rattle.fr_plan.proofs.plan_ordinal.Goals as goal
 
 pub join-requires : goal.join-requires
-join-requires c = (premier.known, omega (arith, ap length c.new-plan.ensures))
+join-requires c = (premier.known, omega (arith, ap length c.clear.ensures))
 
 pub returns-then-is : goal.returns-then-is
 unfolding nth_phrase nth_of
 returns-then-is c =
-    let t = as_word (rw c.new-plan.ensures at c.join.ensures) premier.says in
+    let t = as_word (rw c.clear.ensures at c.join.ensures) premier.says in
     (omega (arith, t.near), rw (← c.if-is.ensures) (whole_phrase (french_joiner (french_numbers_of c.args.settings)) (utf8 "premier" ∷ []) t))
 
 pub pop-last-requires : goal.pop-last-requires
 pop-last-requires c =
     let S = french_numbers_of c.args.settings in
     let gs = c.args.number.now.groups in
-    (omega arith, some_codes _ c.plan_words-plan.ensures (spaced_some (french_joiner S) (cardinal_words (french S) false (total gs)) (some_words S (total gs) (number_below c.args.number.now))))
+    (omega arith, some_codes _ c.plan_words.ensures (spaced_some (french_joiner S) (cardinal_words (french S) false (total gs)) (some_words S (total gs) (number_below c.args.number.now))))
 
 pub overflow_cast-last : goal.overflow_cast-last
-overflow_cast-last c = record { fits = known_fits _ (last_known _ _ c.plan_words-plan.ensures c.pop-last.ensures) }
+overflow_cast-last c = record { fits = known_fits _ (last_known _ _ c.plan_words.ensures c.pop-last.ensures) }
 
 pub stem-place-requires : goal.stem-place-requires
-stem-place-requires c = (c.requires, last_known _ _ c.plan_words-plan.ensures c.pop-last.ensures)
+stem-place-requires c = (c.requires, last_known _ _ c.plan_words.ensures c.pop-last.ensures)
 
 pub returns : goal.returns
 unfolding cardinal_phrase french
 returns c =
     let S = french_numbers_of c.args.settings in
     let gs = c.args.number.now.groups in
-    let t = c.plan_words-plan.ensures in
+    let t = c.plan_words.ensures in
     let w = c.stem-place.ensures in
     let m = whole_phrase (french_joiner S) (cardinal_words (french S) false (total gs)) t in
     let n = nth_phrase_lem S (total gs) (number_below c.args.number.now) (eqb-false (total gs) 1 (sym c.if-is.ensures)) in

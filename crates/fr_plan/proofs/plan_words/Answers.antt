@@ -13,16 +13,16 @@ use Rattle.fr_plan.proofs.plan_words.Goals.{then-negative, else-negative}
 use Rattle.fr_plan.proofs.plan_words.Goals as goal
 
 pub join-requires : goal.join-requires
-join-requires c = (zéro.known, omega (arith, ap length c.new-plan.ensures))
+join-requires c = (zéro.known, omega (arith, ap length c.clear.ensures))
 
 pub returns-then-is : goal.returns-then-is
 returns-then-is c =
     let a = c.args in
     let zero = eqb-true _ _ (sym c.is.ensures ∙ c.if-is.true) in
-    likewise 171 (as_word (rw c.new-plan.ensures at c.join.ensures) zéro.says) (omega arith) (card_zero (french_numbers_of a.settings) a.number.now a.negative zero)
+    likewise 171 (as_word (rw c.clear.ensures at c.join.ensures) zéro.says) (omega arith) (card_zero (french_numbers_of a.settings) a.number.now a.negative zero)
 
 pub join-requires-then-negative : goal.join-requires-then-negative
-join-requires-then-negative c = (moins.known, omega (arith, ap length c.new-plan.ensures))
+join-requires-then-negative c = (moins.known, omega (arith, ap length c.clear.ensures))
 
 pub returns : goal.returns
 returns c =
@@ -33,9 +33,9 @@ returns c =
     let some = eqb-false _ _ (sym c.is.ensures ∙ c.if-is.false) in
     elim c.if-negative.branch [
       | then-negative w ↦
-          likewise 171 (after 171 (as_word (rw c.new-plan.ensures at w.join-then-negative.ensures) moins.says) (rw w.plan-is at c.groups.ensures) (omega arith)) (omega arith)
+          likewise 171 (after 171 (as_word (rw c.clear.ensures at w.join-then-negative.ensures) moins.says) (rw w.plan-is at c.groups.ensures) (omega arith)) (omega arith)
           (card_minus S x a.negative some w.if-negative.true)
       | else-negative w ↦
-          likewise 171 (rw (w.plan-is, c.new-plan.ensures) at c.groups.ensures) (omega arith)
+          likewise 171 (rw (w.plan-is, c.clear.ensures) at c.groups.ensures) (omega arith)
           (card_plain S x a.negative some w.if-negative.false)
     ]

@@ -7,5 +7,5 @@ use Rattle.fr_read.proofs.read_ordinal.Goals as goal
 
 pub returns : goal.returns
 returns c =
-    rw c.read.ensures
-    (read_nth (french_numbers_of c.args.settings) (french_settings_within c.args.settings) c.args.s.now c.guess-number.result c.guess-number.ensures c.is_ordinal-stands.result c.is_ordinal-stands.ensures)
+    rw c.sign_read.ensures
+    (read_nth (french_numbers_of c.args.settings) (french_settings_within c.args.settings) c.args.s.now c.guess.new.number c.guess.ensures c.is_ordinal-stands.result c.is_ordinal-stands.ensures)

@@ -12,10 +12,10 @@ sign_size true n = (omega arith, omega arith)
 sign_size false n = (omega arith, omega arith)
 
 pub overflow_add-result : goal.overflow_add-result
-overflow_add-result g c = omega (arith, c.text_size.ensures, c.from.ensures, text_small (total c.args.number.now.groups), (sign_size c.args.minus 0).1)
+overflow_add-result c = omega (arith, c.text_size.ensures, c.from.ensures, text_small (total c.args.g.now), (sign_size c.args.minus 0).1)
 
 pub returns : goal.returns
-returns g c =
-    let small = text_small (total c.args.number.now.groups) in
-    let sign = sign_size c.args.minus (total c.args.number.now.groups) in
+returns c =
+    let small = text_small (total c.args.g.now) in
+    let sign = sign_size c.args.minus (total c.args.g.now) in
     (omega (arith, c.text_size.ensures, c.from.ensures), omega (arith, c.text_size.ensures, c.from.ensures))

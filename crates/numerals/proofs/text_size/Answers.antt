@@ -10,19 +10,14 @@ use Rattle.numerals.proofs.Heights.{size_none, size_some}
 use Rattle.numerals.proofs.text_size.Goals as goal
 
 pub returns-then-n-eq0 : goal.returns-then-n-eq0
-returns-then-n-eq0 g c =
-    let x = c.args.number.now in
-    size_none x.groups x.small x.orders x.highest c.if-n-eq0.true
+returns-then-n-eq0 c = size_none c.args.g.now c.requires.groups.0 c.args.n c.requires.groups.1 c.if-n-eq0.true
 
 pub group_size-requires : goal.group_size-requires
-group_size-requires g c =
-    let x = c.args.number.now in
-    group_lt x.groups (x.orders - 1) x.small (omega (arith, x.size, x.highest.fits))
+group_size-requires c = group_lt c.args.g.now (c.args.n - 1) c.requires.groups.0 (omega (arith, c.requires.groups.1.fits))
 
 pub overflow_add-result : goal.overflow_add-result
-overflow_add-result g c = omega (arith, c.group_size.ensures, text_small (get_or c.args.number.now.groups (c.args.number.now.orders - 1) 0))
+overflow_add-result c = omega (arith, c.group_size.ensures, text_small (get_or c.args.g.now (c.args.n - 1) 0))
 
 pub returns : goal.returns
-returns g c =
-    let x = c.args.number.now in
-    ap (λ (k : ℕ). (x.orders - 1) * 3 + k) c.group_size.ensures ∙ size_some x.groups x.small x.orders x.highest (omega (arith, x.size)) c.if-n-eq0.false
+returns c =
+    ap (λ (k : ℕ). (c.args.n - 1) * 3 + k) c.group_size.ensures ∙ size_some c.args.g.now c.requires.groups.0 c.args.n c.requires.groups.1 c.requires.g_nonzero.1 c.if-n-eq0.false

@@ -10,6 +10,8 @@ loop-at-preserved c =
     let t = c.take_byte-used in
     record {
       in_out = search rules;
-      answered = one_more_lem _ _ l.out t.new.out _ _ l.at l.used (length l.out - l.used) t.result c.loop-at-test.true l.invariant.in_out (omega arith) l.invariant.answered t.ensures.answered;
+      short = t.ensures.bound.0;
+      line_so_far = t.ensures.line_after;
+      answered = one_more_lem _ _ l.out t.new.out _ _ l.at l.used (length l.out - l.used) t.result _ _ c.loop-at-test.true l.invariant.in_out (omega arith) (search rules) (search rules) l.invariant.answered t.ensures.answered;
       unwritten = λ z. absurd (omega arith);
     }

@@ -1,6 +1,6 @@
 -- `uk_money_calls::read`: what is read is answered.
 -- Assumes nothing.
-use Rattle.std.proofs.Common.{refl, arith, add-one}
+use Rattle.std.proofs.Common.{refl, arith}
 use Rattle.base.proofs.Replies.{refuses}
 use Rattle.settings.proofs.Handed.{numbers_within}
 use Rattle.uk_money_calls.proofs.Entries.{read_none, read_some}

@@ -22,11 +22,11 @@ returns-then-hundredths-ne0 c =
             | then-hundredths-eq0-via-then-hundredths-eq0 v ↦ absurd (c.if-hundredths-ne0.true v.if-hundredths-eq0.true)
             | then-hundredths-eq0-via-else-hundredths-eq0+then-not-is v ↦ eqb-false n 0 (sym v.is.ensures ∙ v.if-not-is.true)
           ] in
-          let told = rw c.new-plan.ensures at (tell 50 w.say_main.ensures (rw w.plan-is at c.say_fraction.ensures) (omega arith)) in
+          let told = rw c.clear.ensures at (tell 50 w.say_main.ensures (rw w.plan-is at c.say_fraction.ensures) (omega arith)) in
           (told.added.near, told_phrase told ∙ both_are S (currency_at a.currency.place) n a.hundredths some c.if-hundredths-ne0.true)
       | else-hundredths-eq0+else-not-is w ↦
           let none = eqb-true n 0 (sym w.is.ensures ∙ w.if-not-is.false) in
-          let told = rw (w.plan-is, c.new-plan.ensures) at c.say_fraction.ensures in
+          let told = rw (w.plan-is, c.clear.ensures) at c.say_fraction.ensures in
           (omega (arith, told.added.near), told_phrase told ∙ part_is S (currency_at a.currency.place) n a.hundredths none c.if-hundredths-ne0.true)
     ]
 
@@ -35,7 +35,7 @@ returns-else-hundredths-ne0 c =
     let a = c.args in
     elim c.if-hundredths-eq0.branch [
       | then-hundredths-eq0 w ↦
-          let told = rw (← w.plan-is, c.new-plan.ensures) at w.say_main.ensures in
+          let told = rw (← w.plan-is, c.clear.ensures) at w.say_main.ensures in
           (omega (arith, told.added.near), told_phrase told ∙ whole_is_lem (numbers_of a.settings) (currency_at a.currency.place) (total a.whole.now.groups) a.hundredths c.if-hundredths-ne0.false)
       | else-hundredths-eq0+else-not-is w ↦ absurd (w.if-hundredths-eq0.false c.if-hundredths-ne0.false)
     ]

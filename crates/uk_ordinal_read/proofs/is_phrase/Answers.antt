@@ -3,4 +3,4 @@
 use Rattle.uk_ordinal_read.proofs.is_phrase.Goals as goal
 
 pub returns : goal.returns
-returns c = rw (c.codes.ensures, c.plan_year-plan.ensures.1) at c.stands.ensures
+returns c = rw (c.codes.ensures, c.plan_year.ensures.1) at c.stands.ensures

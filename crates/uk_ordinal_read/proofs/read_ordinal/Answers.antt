@@ -8,5 +8,5 @@ use Rattle.uk_ordinal_read.proofs.read_ordinal.Goals as goal
 pub returns : goal.returns
 returns c =
     let s = c.args.s.now in
-    let d = rw (c.codes.ensures, c.plan_ordinal-plan.ensures.1) at c.stands-stands.ensures in
+    let d = rw (c.codes.ensures, c.plan_ordinal.ensures.1) at c.stands-stands.ensures in
     rw c.read.ensures (ordinal_read (numbers_of c.args.settings) (settings_within c.args.settings) c.requires s c.guess-number.result c.guess-number.ensures c.stands-stands.result d)

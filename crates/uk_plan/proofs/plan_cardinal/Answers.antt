@@ -9,6 +9,6 @@ use Rattle.uk_plan.proofs.plan_cardinal.Goals as goal
 pub returns : goal.returns
 unfolding cardinal_phrase ukrainian
 returns c =
-    let told = rw c.new-plan.ensures at c.say_cardinal.ensures in
+    let told = rw c.clear.ensures at c.say_cardinal.ensures in
     let x = c.args.number.now in
     (omega (arith, told.added.near, x.size, x.highest.fits), told_phrase told)

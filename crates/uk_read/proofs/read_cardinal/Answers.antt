@@ -24,6 +24,6 @@ returns c =
     let g = c.groups-span.ensures in
     let m = all_read s _ c.groups-span.new.out c.unwrap_or-start.result c.groups-span.result.orders (after_minus (split s)) (rw c.unwrap_or-start.ensures c.minus-sign.ensures.passed.0) refl g.out_after.0 g.out_after.1 g.zero_from.0 g.zero_from.1 in
     let sign = c.is_some.ensures ∙ c.minus-sign.ensures.found in
-    let d = words_stand c.stands-stands.result s uk_pool c.plan_cardinal-plan.result _ c.plan_cardinal-plan.ensures.1 (rw c.codes.ensures at c.stands-stands.ensures) in
+    let d = words_stand c.stands-stands.result s uk_pool c.plan_cardinal.new.plan _ c.plan_cardinal.ensures.1 (rw c.codes.ensures at c.stands-stands.ensures) in
     rw (c.read.ensures, c.is_some-2.ensures, ← c.is_some.ensures)
     (read (numbers_of c.args.settings) (settings_within c.args.settings) s c.is_some.result number sign (c.of_groups-number.ensures ∙ m.groups) c.stands-stands.result d)

@@ -5,4 +5,4 @@ use Rattle.figures.proofs.Laws.Text.{text_small}
 use Rattle.numerals.proofs.money.money_size.Goals as goal
 
 pub overflow_add-result : goal.overflow_add-result
-overflow_add-result g c = omega (arith, c.text_size-else-h-eq0.ensures, text_small (total c.args.number.now.groups))
+overflow_add-result c = omega (arith, c.text_size-else-h-eq0.ensures, text_small (total c.args.g.now))

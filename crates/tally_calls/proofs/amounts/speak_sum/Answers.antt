@@ -6,12 +6,12 @@ use Rattle.figures.specs.Groups.{total}
 use Rattle.groups.proofs.Highest.{orders_few}
 use Rattle.tally_calls.proofs.amounts.speak_sum.Goals as goal
 
-pub plan_money-plan-requires : goal.plan_money-plan-requires
-plan_money-plan-requires c =
+pub plan_money-requires : goal.plan_money-requires
+plan_money-requires c =
     let whole = c.of-whole.result in
-    let wide : c.args.sum.whole < 2 ^ 64 = omega arith in
-    let small : total whole.groups < 1000 ^ 7 = rw c.of-whole.ensures (lt_trans wide (lit< tt)) in
+    let wide : total whole.groups < 2 ^ 64 = rw c.of-whole.ensures (omega arith) in
+    let small : total whole.groups < 1000 ^ 7 = lt_trans wide (lit< tt) in
     (orders_few whole.groups whole.orders 7 whole.small whole.highest (omega arith) small, c.requires)
 
 pub returns : goal.returns
-returns c = heard _ _ _ (rw c.codes.ensures (rw c.of-whole.ensures at c.plan_money-plan.ensures.1)) c.speak.ensures.answers
+returns c = heard _ _ _ (rw c.codes.ensures (rw c.of-whole.ensures at c.plan_money.ensures.1)) c.speak.ensures.answers

@@ -1,0 +1,17 @@
+-- `uk_ordinal_calls::to_ordinal`: what its plan says is the text's ordinal.
+-- Assumes nothing.
+use Rattle.std.proofs.Common.{◌≡◌, arith}
+use Rattle.std.proofs.lemmas.Grind.{common_steps}
+use Rattle.base.proofs.Replies.{heard}
+use Rattle.plan.specs.Phrase.{phrase_of}
+use Rattle.plan.specs.Plan.{pieces}
+use Rattle.uk.specs.Pool.{uk_pool}
+use Rattle.settings.specs.Chosen.{numbers_of}
+use Rattle.settings.proofs.Handed.{handed}
+use Rattle.uk_ordinal_calls.specs.UkOrdinals.{uk_to_ordinal}
+use Rattle.uk_ordinal_calls.proofs.to_ordinal.Goals as goal
+
+pub returns-clause-answers : goal.returns-clause-answers
+returns-clause-answers c =
+    let said : phrase_of (pieces uk_pool c.codes.result.now) ≡ (uk_to_ordinal (numbers_of c.in_ok-settings.settings) c.args.text.now).phrase = grind (arith, common_steps) in
+    grind (arith, common_steps, handed, heard _ _ _ said c.speak.ensures.answers)
