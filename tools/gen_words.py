@@ -1,5 +1,5 @@
 #!/usr/bin/env python3
-"""gen_words.py [--check]: writes the code's pools of texts and its tables of places, from the tables of words in the specs.
+"""gen_words.py [--check]: writes the code's pools of texts and its tables of places, from the tables of words in the specs, and a law of the spaces in them.
 
 A pool is one byte string in which every text of a language stands somewhere, texts that overlap sharing their bytes; a text's place is half
 of where it starts, times 40, and its length. A table whose words have an apostrophe has one more index, the first: the number of the sign that is
@@ -241,6 +241,23 @@ unfoldable pub %s : List ℕ
 %s''' % (head, ', ◌++◌' if len(rows) > 1 else '', name, name, body, front_spec(pool) if fronted else '')
 
 
+def counted_law(pool):
+    """The law that the code's counts are those of the Ukrainian texts' spaces, by computing: what it says stands here, so that no word moves it by hand."""
+    return '''-- The counts are those of the texts' spaces. Made by tools/gen_words.py.
+-- Assumes nothing.
+use mathlib.Core.Path.{refl}
+use mathlib.Core.List.{[], ◌∷◌}
+use native.Mathlib.Omega.{arith}
+use Rattle.base.specs.Measure.{spaces}
+use Rattle.words.specs.Extents.{counts_from, SpacesCounted}
+use Rattle.uk.specs.Pool.{uk_pool}
+
+pub counted : SpacesCounted uk_pool %d %s
+unfolding spaces counts_from uk_pool
+counted = record { within = omega arith; none = refl; others = refl }
+''' % (pool.unspaced, listing(list(pool.counts())))
+
+
 UK = by_apostrophe(tables('uk/specs/UkTables.antt'))
 # these are looked up for every group, and would be made on the stack each time
 DIGITS = {name: UK[name] for name in ('units', 'tens', 'hundreds')}
@@ -341,6 +358,7 @@ def outputs():
         yield '%s/proofs/Listed.antt' % crate, lists("-- The code's tables of places as lists. Made by tools/gen_words.py.\n", found)
     for path, text in digit_files():
         yield 'uk_digits/' + path, text
+    yield 'uk/proofs/Counted.antt', counted_law(UK_POOL)
     for crate, name, what, pool, measured in [('uk', 'uk_pool', 'The Ukrainian texts', UK_POOL, True),
                                               ('uk_ordinal', 'short_pool', 'The endings of digit ordinals', SHORT_POOL, False),
                                               ('fr', 'fr_pool', 'The French texts', FR_POOL, True)]:

@@ -4,3 +4,4 @@ pub mod Laws
 pub mod Words
 pub mod Apostrophes
 pub mod Lent
+pub mod Counted
