@@ -1,5 +1,6 @@
 #!/usr/bin/env python3
-"""gen_words.py [--check]: writes the code's pools of texts and its tables of places, from the tables of words in the specs, and a law of the spaces in them.
+"""gen_words.py [--check]: writes the code's pools of texts and its tables of places, from the tables of words in the specs;
+and the law of the Ukrainian texts' spaces.
 
 A pool is one byte string in which every text of a language stands somewhere, texts that overlap sharing their bytes; a text's place is half
 of where it starts, times 40, and its length. A table whose words have an apostrophe has one more index, the first: the number of the sign that is
@@ -242,7 +243,7 @@ unfoldable pub %s : List ℕ
 
 
 def counted_law(pool):
-    """The law that the code's counts are those of the Ukrainian texts' spaces, by computing: what it says stands here, so that no word moves it by hand."""
+    """The law that the code's counts are those of the Ukrainian texts' spaces, by computing. It is made here, since its numbers change with the words."""
     return '''-- The counts are those of the texts' spaces. Made by tools/gen_words.py.
 -- Assumes nothing.
 use mathlib.Core.Path.{refl}
